@@ -1,0 +1,3 @@
+mod Causes
+mod Counting
+mod Places

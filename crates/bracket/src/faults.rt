@@ -1,5 +1,6 @@
 //! What can be wrong with a line, in three layers. A fault of a lower layer is carried whole by the one above it.
 ghost use mathlib.Core.Path.{_≡_};
+ghost use lib.ListN.{length};
 ghost use Rattle.bracket.specs.declared.faults.FormFault.the-variants.{Word};
 ghost use Rattle.bracket.specs.declared.faults.LineFault.the-variants.{Form};
 ghost use Rattle.bracket.specs.Faults.{layerOf, columnOf, causeOf};
@@ -32,7 +33,8 @@ pub enum LineFault {
 impl LineFault {
     /// The layer that the fault belongs to, as it is printed.
     pub fn layer(self) -> &'static [u8]
-        ensures { λ r. ⌜ now r ≡ layerOf self ⌝ }
+        ensures value { λ r. ⌜ now r ≡ layerOf self ⌝ }
+        ensures len { λ r. ⌜ length (now r) ≡ 4 ⌝ }
     {
         match self {
             LineFault::TooLong => b"line",

@@ -1,3 +1,4 @@
 mod Spelling
 mod Keeping
 mod Dialogues
+mod Room

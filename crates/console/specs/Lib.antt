@@ -6,3 +6,4 @@ pub mod Answering
 pub mod Buffers
 pub mod Reports
 pub mod Sessions
+pub mod Memory

@@ -2,10 +2,13 @@
 ghost use mathlib.Core.Path.{_≡_};
 ghost use mathlib.Core.List.{_++_};
 ghost use Rattle.std.specs.Of.Vec.{vec-items};
+ghost use Rattle.std.specs.Results.{isOk};
 ghost use Rattle.std.specs.Vec.{made};
 ghost use Rattle.bracket.specs.Faults.{faultText};
+ghost use Rattle.console.specs.Memory.{Adds};
 ghost use Rattle.console.specs.Answers.{answerText, replyText};
 use super::texts::fill;
+use super::texts::push_text;
 use bracket::LineFault;
 use bracket::LineFaultDebug;
 use bracket::LineFaultPartialEq;
@@ -33,7 +36,8 @@ pub enum Answer {
 
 impl Reply {
     fn write(self, out: &mut Vec<u8>) -> Result<(), AllocError>
-        ensures { λ r. ⌜ made r (λ _. vec-items (now (out .exit)) ≡ vec-items (now (out .entry)) ++ replyText self) ⌝ }
+        ensures memory { λ r. ⌜ Adds 80 (now (out .entry)) (now (out .exit)) (isOk r) ⌝ }
+        ensures text { λ r. ⌜ made r (λ _. vec-items (now (out .exit)) ≡ vec-items (now (out .entry)) ++ replyText self) ⌝ }
     {
         match self {
             Reply::Done => fill(b"(ok)", &[], out),
@@ -44,10 +48,11 @@ impl Reply {
 
 // Adds a fault with the number of its line.
 fn push_fault(line: u64, fault: LineFault, out: &mut Vec<u8>) -> Result<(), AllocError>
-    ensures { λ r. ⌜ made r (λ _. vec-items (now (out .exit)) ≡ vec-items (now (out .entry)) ++ faultText line fault) ⌝ }
+    ensures memory { λ r. ⌜ Adds 80 (now (out .entry)) (now (out .exit)) (isOk r) ⌝ }
+    ensures text { λ r. ⌜ made r (λ _. vec-items (now (out .exit)) ≡ vec-items (now (out .entry)) ++ faultText line fault) ⌝ }
 {
-    out.push(b'(')?;
-    out.extend_from_slice(fault.layer())?;
+    push_text(b"(", out)?;
+    push_text(fault.layer(), out)?;
     fill(
         b" # # #)",
         &[line, fault.column() as u64, u64::from(fault.cause())],
@@ -59,7 +64,8 @@ fn push_fault(line: u64, fault: LineFault, out: &mut Vec<u8>) -> Result<(), Allo
 impl Answer {
     /// Adds the answer's text, with no byte to end the line.
     pub fn write(self, out: &mut Vec<u8>) -> Result<(), AllocError>
-        ensures { λ r. ⌜ made r (λ _. vec-items (now (out .exit)) ≡ vec-items (now (out .entry)) ++ answerText self) ⌝ }
+        ensures memory { λ r. ⌜ Adds 80 (now (out .entry)) (now (out .exit)) (isOk r) ⌝ }
+        ensures text { λ r. ⌜ made r (λ _. vec-items (now (out .exit)) ≡ vec-items (now (out .entry)) ++ answerText self) ⌝ }
     {
         match self {
             Answer::Accepted(reply) => reply.write(out),

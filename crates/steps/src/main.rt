@@ -14,6 +14,9 @@ use std::io::Write;
 // As much of the input as is read at once.
 const PIECE: usize = 65536;
 
+// Room for the answers to a whole piece: each byte ends one line at most, and its answer has at most 81 bytes.
+const ANSWERS: usize = 81 * PIECE;
+
 // What can go wrong outside the text.
 #[derive(Drop, Debug)]
 enum Failure {
@@ -62,7 +65,7 @@ fn next_piece<R: Read>(input: &mut R, piece: &mut [u8]) -> Result<usize, Failure
 fn answer<R: Read>(rt: &LibcRuntime, input: &mut R, name: &str) -> Result<(), Failure> {
     let heap = rt.alloc();
     let mut piece = vec![in heap; 0u8; PIECE]?;
-    let mut out = Vec::new(heap);
+    let mut out = Vec::with_capacity(heap, ANSWERS)?;
     let mut session = Session::new();
     for _ in 0..u64::MAX {
         let len = next_piece(input, &mut piece)?;

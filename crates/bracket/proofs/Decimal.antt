@@ -1,24 +1,19 @@
 -- A run is a number exactly where it is what a number below 10 ^ 16 looks like in base ten.
 use mathlib.Core.Path.{_≡_, refl, sym, ap, subst, _∙_}
-use mathlib.Core.Bool.{Bool, true, false, cond, not, _&&_, _||_}
-use mathlib.Core.List.{List, [], _∷_, _++_}
+use mathlib.Core.Bool.{Bool, true, false, cond, not, _||_}
+use mathlib.Core.List.{List}
 use mathlib.Core.Logic.{_⊎_, inl, inr, ⊎-elim}
-use Prim.Native.Nat.{ℕ, zero, suc, _+_, _-_, _*_, _^_, _<_, _≤_}
-use native.Mathlib.Nat.{pow-le-pow-right, lt-of-lt-of-le}
+use Prim.Native.Nat.{ℕ, _^_, _<_, _≤_}
 use native.Mathlib.Omega.{arith}
-use borrow.Author.Needs.{needs}
-use lib.Dec.{leb, eqb}
+use lib.Dec.{eqb}
 use lib.ListN.{length, getD}
-use Rattle.std.proofs.shelf.Tests.{and-parts, and-from, or-cases, or-left, or-right, eqb-true, eq-eqb, ne-eqb, le-leb, leb-true, not-true, eqb-false, not-from-false, both-ways, cases-eq}
+use Rattle.std.proofs.shelf.Tests.{and-parts, and-from, or-cases, or-left, or-right, eqb-true, eq-eqb, ne-eqb, le-leb, not-true, not-from-false, both-ways, cases-eq}
 use Rattle.std.proofs.shelf.Ways.{tells}
 use Rattle.std.proofs.shelf.Numerals.{Numerals, numerals-by-fold, value-short}
 use Rattle.std.proofs.shelf.Decimals.{decimal-value, digits-decimal, value-decimal, length-decimal-le, decimal-some, first-decimal, decimal-digit}
-use Rattle.std.specs.Text.{In}
 use Rattle.std.specs.Written.{decimal}
-use Rattle.std.specs.declared.option.Option.{Option}
 use Rattle.std.specs.declared.option.Option.the-variants.{Some, None}
-use Rattle.bracket.specs.declared.words.Class.the-variants.{Open, Close, Space, Digit, Letter, Other}
-use Rattle.bracket.specs.Characters.{within, classOf, digitClass, digit, every, readOn, isNumber, numberOf}
+use Rattle.bracket.specs.Characters.{within, digit, every, readOn, isNumber, numberOf}
 use Rattle.bracket.proofs.Runs.{digit-range}
 
 within-both : (low high b : ℕ) → within low high b ≡ true → (low ≤ b) × (b ≤ high)

@@ -1,7 +1,7 @@
 -- Runs of characters: one step of a loop over them, and the range of the digits.
 use mathlib.Core.Path.{_≡_, refl, sym, ap, _∙_}
 use mathlib.Core.Bool.{Bool, true, false, cond, _&&_}
-use mathlib.Core.List.{List, [], _∷_}
+use mathlib.Core.List.{List}
 use Prim.Native.Nat.{ℕ, _+_, _-_, _*_, _^_, _<_, _≤_}
 use native.Mathlib.Nat.{pow-le-pow-right, pow-suc, lt-of-lt-of-le}
 use native.Mathlib.Numerals.{add-one}
@@ -10,9 +10,8 @@ use lib.Dec.{leb, eqb}
 use lib.ListN.{length, getD, drop}
 use borrow.Author.Tests.{leb-true}
 use Rattle.std.proofs.shelf.Lists.{drop-more}
-use Rattle.std.proofs.shelf.Tests.{le-leb, ne-eqb}
 use Rattle.bracket.specs.declared.words.Class.the-variants.{Open, Close, Space, Digit, Letter, Other}
-use Rattle.bracket.specs.Characters.{classOf, digitClass, digit, every, readOn}
+use Rattle.bracket.specs.Characters.{digitClass, digit, every, readOn}
 
 -- one byte of a test over all of them
 pub every-step : (test : ℕ → Bool) (bytes : List ℕ) (i : ℕ) (t : Bool) → i < length bytes → t ≡ test (getD bytes i 0) → every test (drop i bytes) ≡ (t && every test (drop (i + 1) bytes))

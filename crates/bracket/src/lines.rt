@@ -1,13 +1,6 @@
 //! One line, read whole.
-ghost use mathlib.Core.Path.{_≡_};
-ghost use mathlib.Core.List.{List};
-ghost use Prim.Native.Nat.{ℕ, _≤_};
-ghost use lib.ListN.{length};
-ghost use Rattle.std.specs.Results.{Cases};
 ghost use Rattle.bracket.specs.declared.faults.FormFault.the-variants.{Word, Unknown};
-ghost use Rattle.bracket.specs.Faults.{Clean, FirstFault};
 ghost use Rattle.bracket.specs.Reads.{FormReads, ReadAs};
-ghost use Rattle.bracket.specs.Texts.{Writes};
 use super::commands::Command;
 use super::faults::FormFault;
 use super::faults::FormFromWord;

@@ -8,7 +8,7 @@ use lib.ListN.{length, getD, take}
 use Rattle.std.proofs.shelf.Elements.{all-push}
 use Rattle.std.proofs.shelf.Lists.{take-all, take-append-le, take-more, length-take-le, joined-more}
 use Rattle.std.proofs.shelf.Tests.{cases-lt}
-use Rattle.std.specs.shelf.Lists.{All, joined}
+use Rattle.std.specs.shelf.Lists.{joined}
 use Rattle.bracket.proofs.Determined.{clipped}
 use Rattle.bracket.specs.Reads.{ReadAs}
 use Rattle.console.specs.declared.answers.Answer.{Answer}
@@ -18,7 +18,7 @@ use Rattle.console.specs.Answering.{State, freshState, stateOf, Answered}
 use Rattle.console.specs.Answers.{answerText}
 use Rattle.console.specs.Buffers.{keptIn}
 use Rattle.console.specs.Reports.{reportOf}
-use Rattle.console.specs.Sessions.{ended, Unbroken, Cut, lastLine, Dialogue, printed, Reached, Finished, LineEnded, Fed, Closed}
+use Rattle.console.specs.Sessions.{ended, Unbroken, lastLine, Dialogue, Reached, LineEnded, Fed, Closed}
 
 pub started : (session : Session) → stateOf (session .console) ≡ freshState → keptIn (session .buffer) ≡ [] → Reached [] [] session
 started session d k = record {

@@ -14,7 +14,7 @@ use std::io::Write;
 // As much of the input as is read at once.
 const PIECE: usize = 65536;
 
-// Room for the answers to a whole piece: each byte ends one line at most, and its answer has at most 81 bytes.
+// Room for the answers to a whole piece: each byte ends one line at most, whose answer has at most 81 bytes with the one that ends it.
 const ANSWERS: usize = 81 * PIECE;
 
 // What can go wrong outside the text.

@@ -1,4 +1,4 @@
-use mathlib.Core.Path.{sym, ap, _∙_}
+use mathlib.Core.Path.{sym, _∙_}
 use Rattle.std.proofs.shelf.Lists.{at-drop-all}
 use Rattle.bracket.specs.Characters.{every, letter}
 use Rattle.bracket.proofs.Runs.{every-step}

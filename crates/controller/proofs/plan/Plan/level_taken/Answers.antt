@@ -1,5 +1,5 @@
 use borrow.Author.Needs.{needs}
-use mathlib.Core.Path.{_≡_, sym}
+use mathlib.Core.Path.{sym}
 use lib.Dec.{eqb}
 use Rattle.controller.specs.Tables.{componentAt}
 use Rattle.controller.specs.View.{tables}

@@ -1,4 +1,6 @@
 //! Boards: which jobs are pending for each of at most eight components, and which one runs next.
+#![tactic(auto)]
+
 mod board;
 mod either;
 mod empty;

@@ -1,4 +1,6 @@
 //! Bracket text: one line of bytes is one command, or the first fault in it.
+#![tactic(auto)]
+
 mod commands;
 mod faults;
 mod forms;

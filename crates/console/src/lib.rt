@@ -1,4 +1,6 @@
 //! One line of text in, one line of answer out, with the controller between them.
+#![tactic(auto)]
+
 mod answers;
 mod buffer;
 mod console;

@@ -1,4 +1,6 @@
 //! The board by earliest deadline.
+#![tactic(auto)]
+
 mod deadline;
 mod deadline_board;
 mod queue;

@@ -1,4 +1,6 @@
 //! The library by example: tests that use its crates from outside.
+#![tactic(auto)]
+
 #[cfg(test)]
 mod boarding;
 #[cfg(test)]

@@ -1,4 +1,6 @@
 //! The board by fixed priority.
+#![tactic(auto)]
+
 mod fixed;
 mod fixed_board;
 mod tasks;

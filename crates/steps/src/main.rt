@@ -1,4 +1,6 @@
 //! Reads plans as bracket text, from files or from standard input, and prints an answer for each line.
+#![tactic(auto)]
+
 ghost use Rattle.std.specs.Prelude.{◌≤◌, length, IfOk};
 
 use console::Session;

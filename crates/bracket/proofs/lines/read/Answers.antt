@@ -7,10 +7,10 @@ use Rattle.bracket.proofs.lines.read.Goals as goal
 pub returns-then-line-gt-LONGEST : goal.returns-then-line-gt-LONGEST
 returns-then-line-gt-LONGEST c = read_as c.args.line.now (Err TooLong) (omega arith)
 
-pub returns-in-err-command : goal.returns-in-err-command
-returns-in-err-command c =
+pub returns-in_err-command : goal.returns-in_err-command
+returns-in_err-command c =
     let p = err_from_is_err_and c.from-residual.result c.from-residual.ensures.1 in
-    rw (p.1, p.2) (read_as c.args.line.now (Err (Form _)) (omega arith, c.in-err-command.ensures))
+    rw (p.1, p.2) (read_as c.args.line.now (Err (Form _)) (omega arith, c.in_err-command.ensures))
 
 pub returns : goal.returns
-returns c = read_as c.args.line.now (Ok c.in-ok-command.command) c.in-ok-command.ensures
+returns c = read_as c.args.line.now (Ok c.in_ok-command.command) c.in_ok-command.ensures

@@ -15,6 +15,6 @@ returns-in-Some c = record {
 
 pub loop-i-preserved : goal.loop-i-preserved
 loop-i-preserved c = (
-  below_more _ _ c.loop-i.invariant.0 (at_place c.args.line.now c.loop-i.i c.loop-i.inside _ c.loop-i-test.true c.loop-i.invariant.1 c.in-default.ensures),
-  c.in-run-inside.ensures ∙ sym (inside_step c.args.line.now c.loop-i.i c.loop-i-test.true),
+  below_more _ _ c.loop-i.invariant.0 (at_place c.args.line.now c.loop-i.i c.loop-i.inside _ c.loop-i-test.true c.loop-i.invariant.1 c.in_default.ensures),
+  c.in_run-inside.ensures ∙ sym (inside_step c.args.line.now c.loop-i.i c.loop-i-test.true),
 )

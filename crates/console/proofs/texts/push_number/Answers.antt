@@ -11,6 +11,6 @@ returns c =
     let whole : take (20 - start) (drop start digits) ≡ decimal c.args.n = ap (λ k. take (k - start) (drop start digits)) (sym c.spell-start.array_long) ∙ take_rest digits start ∙ c.spell-start.ensures.text in
     let few : length (take (20 - start) (drop start digits)) ≤ 20 = simp length-take (omega arith) in
     record {
-      memory = upto few c.push-text.ensures.memory;
-      text = IfOk-weaker c.push-text.result _ _ (λ _ e. e ∙ ap (λ l. vec_items c.args.out.now ++ l) whole) c.push-text.ensures.text;
+      memory = upto few c.push_text.ensures.memory;
+      text = IfOk-weaker c.push_text.result _ _ (λ _ e. e ∙ ap (λ l. vec_items c.args.out.now ++ l) whole) c.push_text.ensures.text;
     }

@@ -8,8 +8,8 @@ loop-rest-init c =
     let long : length c.args.digits.now ≡ 20 = search rules in
     (long, omega arith, at_drop_all (λ l. decimal c.args.n ++ l) c.args.digits.now 20 (omega arith) ∙ append-nil (decimal c.args.n), search rules)
 
-pub overflow-sub-at-in-loop-rest : goal.overflow-sub-at-in-loop-rest
-overflow-sub-at-in-loop-rest c =
+pub overflow_sub-at-in-loop-rest : goal.overflow_sub-at-in-loop-rest
+overflow_sub-at-in-loop-rest c =
     place_left c.loop-rest.digits c.loop-rest.at c.loop-rest.rest c.args.n c.loop-rest.invariant.0 c.loop-rest.invariant.1 c.loop-rest-test.true c.loop-rest.invariant.3 (search rules) c.loop-rest.invariant.2
 
 pub loop-rest-preserved : goal.loop-rest-preserved

@@ -13,15 +13,15 @@ loop-byte-preserved-then-byte-ne10 c = (
   λ input output r. byte_turn input output c.args.bytes.now (vec_items c.args.out.now) (vec_items c.loop-byte.out) c.loop-byte.self _ c.loop-byte.byte-index c.loop-byte-test.true c.if-byte-ne10.true refl c.push.ensures (c.loop-byte.invariant.1 input output r),
 )
 
-pub returns-in-err-end-line : goal.returns-in-err-end-line
-returns-in-err-end-line c =
+pub returns-in_err-end_line : goal.returns-in_err-end_line
+returns-in_err-end_line c =
     let p = err_from_is_err_and c.from-residual.result c.from-residual.ensures.1 in
-    rw p.1 (record { memory = after (omega arith) c.loop-byte.invariant.0 c.in-err-end-line.ensures.memory; answers = tt })
+    rw p.1 (record { memory = after (omega arith) c.loop-byte.invariant.0 c.in_err-end_line.ensures.memory; answers = tt })
 
 pub loop-byte-preserved : goal.loop-byte-preserved
 loop-byte-preserved c = (
-  after (omega arith) c.loop-byte.invariant.0 c.in-ok-end-line.ensures.memory,
-  λ input output r. end_turn input output c.args.bytes.now (vec_items c.args.out.now) (vec_items c.loop-byte.out) (vec_items c.end-line.new.out) c.loop-byte.self c.end-line.new.self c.loop-byte.byte-index c.loop-byte-test.true c.if-byte-ne10.false c.in-ok-end-line.ensures.line (c.loop-byte.invariant.1 input output r),
+  after (omega arith) c.loop-byte.invariant.0 c.in_ok-end_line.ensures.memory,
+  λ input output r. end_turn input output c.args.bytes.now (vec_items c.args.out.now) (vec_items c.loop-byte.out) (vec_items c.end_line.new.out) c.loop-byte.self c.end_line.new.self c.loop-byte.byte-index c.loop-byte-test.true c.if-byte-ne10.false c.in_ok-end_line.ensures.line (c.loop-byte.invariant.1 input output r),
 )
 
 pub returns : goal.returns

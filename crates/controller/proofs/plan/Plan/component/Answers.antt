@@ -8,8 +8,8 @@ use Rattle.controller.proofs.Causes.{component_fits}
 use Rattle.controller.proofs.Places.{Sound, sound_more}
 use Rattle.controller.proofs.plan.Plan.component.Goals as goal
 
-pub invariant-of-self : goal.invariant-of-self
-invariant-of-self c =
+pub invariant_of-self : goal.invariant_of-self
+invariant_of-self c =
     let was = c.args.self.now in
     let fits = component_fits (tables was) c.args.level c.args.budget c.args.period c.in-None.ensures in
     let room = fits.room in

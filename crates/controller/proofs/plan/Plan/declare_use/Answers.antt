@@ -4,8 +4,8 @@ use Rattle.controller.proofs.Causes.{use_fits}
 use Rattle.controller.proofs.Places.{Sound, sound_use}
 use Rattle.controller.proofs.plan.Plan.declare_use.Goals as goal
 
-pub invariant-of-self : goal.invariant-of-self
-invariant-of-self c =
+pub invariant_of-self : goal.invariant_of-self
+invariant_of-self c =
     let was = c.args.self.now in
     let fits = use_fits (tables was) c.args.component c.args.resource c.args.access c.in-None.ensures in
     let known = fits.known in
@@ -13,6 +13,6 @@ invariant-of-self c =
     let long : length was.components ≡ 8 = search rules in
     let sound : Sound was.components was.count = (was.ranges, (was.distinct, (was.deadlines, (was.accesses, (was.affordable, tt))))) in (
       few,
-      subst (λ x. Sound (set was.components c.args.component x) was.count) (sym c.add-use.ensures)
+      subst (λ x. Sound (set was.components c.args.component x) was.count) (sym c.add_use.ensures)
           (sound_use _ _ _ _ _ (omega arith) known fits.access sound),
     )

@@ -2,5 +2,5 @@ use Rattle.std.proofs.Common.{[], ◌∷◌, sym, subst, arith}
 use Rattle.controller.proofs.Places.{Sound, sound_none}
 use Rattle.controller.proofs.plan.Plan.new.Goals as goal
 
-pub invariant-of-result : goal.invariant-of-result
-invariant-of-result c = (omega arith, subst (λ x. Sound (x ∷ x ∷ x ∷ x ∷ x ∷ x ∷ x ∷ x ∷ []) 0) (sym c.new.ensures) sound_none)
+pub invariant_of-result : goal.invariant_of-result
+invariant_of-result c = (omega arith, subst (λ x. Sound (x ∷ x ∷ x ∷ x ∷ x ∷ x ∷ x ∷ x ∷ []) 0) (sym c.new.ensures) sound_none)

@@ -5,11 +5,11 @@ use Rattle.controller.proofs.Causes.{task_fits}
 use Rattle.controller.proofs.Places.{Sound, sound_task}
 use Rattle.controller.proofs.plan.Plan.task.Goals as goal
 
-pub invariant-of-self : goal.invariant-of-self
-invariant-of-self c =
+pub invariant_of-self : goal.invariant_of-self
+invariant_of-self c =
     let was = c.args.self.now in
     let old = get_or was.components c.args.component absent in
-    let after = c.add-task.ensures in
+    let after = c.add_task.ensures in
     let fits = task_fits (tables was) c.args.component c.args.deadline c.in-None.ensures in
     let known = fits.known in
     let few = was.few in

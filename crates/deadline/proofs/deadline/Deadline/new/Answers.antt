@@ -1,7 +1,7 @@
 use Rattle.deadline.specs.Deadlines.{nothing_held}
 use Rattle.deadline.proofs.deadline.Deadline.new.Goals as goal
 
-pub invariant-of-result : goal.invariant-of-result
-invariant-of-result c =
+pub invariant_of-result : goal.invariant_of-result
+invariant_of-result c =
     let s = nothing_held c.new.result c.new-2.result _ c.new.ensures c.new-2.ensures in
     (s.fits, (s.same, (s.apart, (s.in_order, tt))))

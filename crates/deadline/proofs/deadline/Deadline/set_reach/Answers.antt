@@ -5,23 +5,23 @@ use Rattle.boards.proofs.Calls.{refused_always}
 use Rattle.deadline.specs.Deadlines.{same_board, jobs_are, empty_queue, reset_same}
 use Rattle.deadline.proofs.deadline.Deadline.set_reach.Goals as goal
 
-pub invariant-of-self : goal.invariant-of-self
-invariant-of-self c =
+pub invariant_of-self : goal.invariant_of-self
+invariant_of-self c =
     let b = c.args.self.now in
-    (b.fits, (reset_same b c.set-reach.new.self c.args.reach c.set-reach.result c.set-reach.ensures.refusal c.set-reach.ensures.kept c.set-reach.ensures.set, (b.apart, (b.in_order, tt))))
+    (b.fits, (reset_same b c.set_reach.new.self c.args.reach c.set_reach.result c.set_reach.ensures.refusal c.set_reach.ensures.kept c.set_reach.ensures.set, (b.apart, (b.in_order, tt))))
 
-pub returns-in-err-set-reach : goal.returns-in-err-set-reach
-returns-in-err-set-reach c =
+pub returns-in_err-set_reach : goal.returns-in_err-set_reach
+returns-in_err-set_reach c =
     let b = c.args.self.now in
     let e = jobs_are b in
-    record { refusal = search rules; kept = refused_always _ _ (λ _. same_board b _ c.in-err-set-reach.ensures.kept refl refl); set = search rules }
+    record { refusal = search rules; kept = refused_always _ _ (λ _. same_board b _ c.in_err-set_reach.ensures.kept refl refl); set = search rules }
 
 pub returns : goal.returns
 returns c =
     let b = c.args.self.now in
     let e = jobs_are b in
-    let set = c.in-ok-set-reach.ensures.set in
-    let none = reset_same b c.set-reach.new.self c.args.reach c.set-reach.result c.set-reach.ensures.refusal c.set-reach.ensures.kept c.set-reach.ensures.set in
+    let set = c.in_ok-set_reach.ensures.set in
+    let none = reset_same b c.set_reach.new.self c.args.reach c.set_reach.result c.set_reach.ensures.refusal c.set_reach.ensures.kept c.set_reach.ensures.set in
     record {
       refusal = search rules;
       kept = tt;

@@ -8,5 +8,5 @@ pub returns : goal.returns
 returns c =
     let b = c.args.self.now in
     let k = c.args.component in
-    let found = c.first-of.ensures ∙ ap (first_of k) c.records.ensures in
+    let found = c.first_of.ensures ∙ ap (first_of k) c.records.ensures in
     record { is = found; earliest = subst (Earliest k (queue b)) (sym found) (first_earliest k (queue b) b.in_order) }

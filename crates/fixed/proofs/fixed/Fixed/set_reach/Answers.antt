@@ -3,13 +3,13 @@ use Rattle.std.proofs.lemmas.Bool.Decides.{nat_tests}
 use Rattle.fixed.specs.Fixeds.{empty_sets}
 use Rattle.fixed.proofs.fixed.Fixed.set_reach.Goals as goal
 
-pub returns-then-not-is-empty : goal.returns-then-not-is-empty
-returns-then-not-is-empty c = let full = c.is-empty.ensures.test in record { refusal = grind (arith, nat_tests); kept = search rules; set = tt }
+pub returns-then-not-is_empty : goal.returns-then-not-is_empty
+returns-then-not-is_empty c = let full = c.is_empty.ensures.test in record { refusal = grind (arith, nat_tests); kept = search rules; set = tt }
 
-pub invariant-of-self : goal.invariant-of-self
-invariant-of-self c = let none = c.is-empty.ensures.jobs.0 c.if-not-is-empty.false in (omega arith, (λ d t ge. none d t, tt))
+pub invariant_of-self : goal.invariant_of-self
+invariant_of-self c = let none = c.is_empty.ensures.jobs.0 c.if-not-is_empty.false in (omega arith, (λ d t ge. none d t, tt))
 
 pub returns : goal.returns
 returns c =
-    let free = c.is-empty.ensures.test in
-    record { refusal = grind (arith, nat_tests); kept = tt; set = empty_sets c.args.reach c.args.self.now.sets (c.is-empty.ensures.jobs.0 c.if-not-is-empty.false) }
+    let free = c.is_empty.ensures.test in
+    record { refusal = grind (arith, nat_tests); kept = tt; set = empty_sets c.args.reach c.args.self.now.sets (c.is_empty.ensures.jobs.0 c.if-not-is_empty.false) }

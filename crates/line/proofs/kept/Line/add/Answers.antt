@@ -17,9 +17,9 @@ returns g c =
     let le = g.R.Ranked.le in
     let size = length-take h m in
     let whole : h - 0 ≡ h = omega arith in
-    let place = c.place-for-at.ensures.place ∙ ap (λ k. behind le c.args.item (take k m)) whole in
+    let place = c.place_for-at.ensures.place ∙ ap (λ k. behind le c.args.item (take k m)) whole in
     record {
       refusal = grind (arith, nat_tests);
       kept = tt;
-      added = added le _ _ m _ h _ refl c.shift-up.auto.places g.met.R.Ranked.total _ c.if-held-places.false place c.shift-up.ensures refl;
+      added = added le _ _ m _ h _ refl c.shift_up.auto.places g.met.R.Ranked.total _ c.if-held-places.false place c.shift_up.ensures refl;
     }

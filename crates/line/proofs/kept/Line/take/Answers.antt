@@ -9,6 +9,6 @@ returns g c =
       refusal = grind (arith, nat_tests);
       kept = tt;
       taken =
-          taken g.R.Ranked.le _ _ c.args.places.now _ c.count-in-held.result _ c.count-in-held.ensures.front c.shift-down.auto.places g.met.R.Ranked.transitive _
-          c.count-in-held.ensures.within c.if-at-held.false c.index-places-at.is c.shift-down.ensures (omega arith);
+          taken g.R.Ranked.le _ _ c.args.places.now _ c.count_in-held.result _ c.count_in-held.ensures.front c.shift_down.auto.places g.met.R.Ranked.transitive _
+          c.count_in-held.ensures.within c.if-at-held.false c.index-places-at.is c.shift_down.ensures (omega arith);
     }

@@ -14,8 +14,12 @@ placed P cs k i c l new old =
     (cases_eq i k)
 
 -- all that a plan keeps true of its components, as its ghost fields have it
-abbrev pub Sound : List Component → ℕ → Type 0
-Sound cs count = Ranges cs count × (Distinct cs count × (Deadlines cs × (Accesses cs × (Affordable cs × Unit {0}))))
+pub record Sound (cs : List Component) (count : ℕ) : Type 0 where
+  pub ranges : Ranges cs count
+  pub distinct : Distinct cs count
+  pub deadlines : Deadlines cs
+  pub accesses : Accesses cs
+  pub affordable : Affordable cs
 
 -- ---- a plan that declares nothing
 
@@ -39,7 +43,13 @@ affordable_none : Affordable (replicate 8 vacant)
 affordable_none i r x = each_vacant (λ c. get_or c.accesses r None ≡ Some x → x ≤ c.budget) 8 i (λ e. absurd (no_access 16 r x e)) (λ e. absurd (no_access 0 r x e))
 
 pub sound_none : Sound (replicate 8 vacant) 0
-sound_none = (λ i h. absurd (omega arith), (λ i j h. absurd (omega arith), (deadlines_none, (accesses_none, (affordable_none, tt)))))
+sound_none = record {
+  ranges = λ i h. absurd (omega arith);
+  distinct = λ i j h. absurd (omega arith);
+  deadlines = deadlines_none;
+  accesses = accesses_none;
+  affordable = affordable_none;
+}
 
 -- ---- one component more
 
@@ -66,16 +76,13 @@ affordable_more cs count l b p k h i r x =
     placed (λ c. get_or c.accesses r None ≡ Some x → x ≤ c.budget) cs count i (fresh l b p) k (λ e s. absurd (no_access 16 r x s)) (λ ne. h i r x)
 
 pub sound_more : (cs : List Component) (count l b p : ℕ) → count < length cs → Within 1 200 l → Within 1 1000000 p → Within 1 p b → ((i : ℕ) → i < count → (get_or cs i absent).level ≡ l → ⊥) → Sound cs count → Sound (set cs count (fresh l b p)) (count + 1)
-sound_more cs count l b p k level period budget free h = (
-  ranges_more cs count l b p k level period budget h.0,
-  (
-    distinct_more cs count l b p k free h.1.0,
-    (
-      deadlines_more cs count l b p k h.1.1.0,
-      (accesses_more cs count l b p k h.1.1.1.0, (affordable_more cs count l b p k h.1.1.1.1.0, tt)),
-    ),
-  ),
-)
+sound_more cs count l b p k level period budget free h = record {
+  ranges = ranges_more cs count l b p k level period budget h.ranges;
+  distinct = distinct_more cs count l b p k free h.distinct;
+  deadlines = deadlines_more cs count l b p k h.deadlines;
+  accesses = accesses_more cs count l b p k h.accesses;
+  affordable = affordable_more cs count l b p k h.affordable;
+}
 
 -- ---- a component that has another task or use: its level is as it was
 
@@ -89,26 +96,21 @@ distinct_kept cs count k c l same h i j m n e = h i j m n (sym (level i) ∙ (e 
 pub sound_task : (cs : List Component) (count k d : ℕ) → k < length cs → k < count → (get_or cs k absent).tasks < 8 → Within 1 1000000 d → get_or (set (get_or cs k absent).deadlines (get_or cs k absent).tasks d) (get_or cs k absent).tasks 0 ≡ d → Sound cs count → Sound (set cs k (with_task (get_or cs k absent) d)) count
 sound_task cs count k d l m room deadline stored h =
     let old = get_or cs k absent in
-    let new = with_task old d in (
-      λ i n. placed InRange cs k i new l (λ e. ((h.0 k m).0, (h.0 k m).1, (h.0 k m).2, omega arith)) (λ ne. h.0 i n),
-      (
-        distinct_kept cs count k new l refl h.1.0,
-        (
-          λ i t.
-              placed (λ c. t < c.tasks → Within 1 1000000 (get_or c.deadlines t 0)) cs k i new l
-              (λ e n.
-              ⊎_elim
-              (λ s. subst (λ t. Within 1 1000000 (get_or (set old.deadlines old.tasks d) t 0)) (sym s) (subst (Within 1 1000000) (sym stored) deadline))
-              (λ ne. subst (Within 1 1000000) (sym (get_or-set_other old.deadlines old.tasks t d 0 ne)) (h.1.1.0 k t (omega arith)))
-              (cases_eq t old.tasks))
-              (λ ne. h.1.1.0 i t),
-          (
-            λ i r x. placed (λ c. get_or c.accesses r None ≡ Some x → 1 ≤ x) cs k i new l (λ e. h.1.1.1.0 k r x) (λ ne. h.1.1.1.0 i r x),
-            (λ i r x. placed (λ c. get_or c.accesses r None ≡ Some x → x ≤ c.budget) cs k i new l (λ e. h.1.1.1.1.0 k r x) (λ ne. h.1.1.1.1.0 i r x), tt),
-          ),
-        ),
-      ),
-    )
+    let new = with_task old d in
+    record {
+      ranges = λ i n. placed InRange cs k i new l (λ e. ((h.ranges k m).0, (h.ranges k m).1, (h.ranges k m).2, omega arith)) (λ ne. h.ranges i n);
+      distinct = distinct_kept cs count k new l refl h.distinct;
+      deadlines = λ i t.
+          placed (λ c. t < c.tasks → Within 1 1000000 (get_or c.deadlines t 0)) cs k i new l
+          (λ e n.
+          ⊎_elim
+          (λ s. subst (λ t. Within 1 1000000 (get_or (set old.deadlines old.tasks d) t 0)) (sym s) (subst (Within 1 1000000) (sym stored) deadline))
+          (λ ne. subst (Within 1 1000000) (sym (get_or-set_other old.deadlines old.tasks t d 0 ne)) (h.deadlines k t (omega arith)))
+          (cases_eq t old.tasks))
+          (λ ne. h.deadlines i t);
+      accesses = λ i r x. placed (λ c. get_or c.accesses r None ≡ Some x → 1 ≤ x) cs k i new l (λ e. h.accesses k r x) (λ ne. h.accesses i r x);
+      affordable = λ i r x. placed (λ c. get_or c.accesses r None ≡ Some x → x ≤ c.budget) cs k i new l (λ e. h.affordable k r x) (λ ne. h.affordable i r x);
+    }
 
 -- an access of a component with one use more is the new one, or stood there before
 use_cases : (xs : List (Option ℕ)) (r k x y : ℕ) → get_or (set xs r (Some x)) k None ≡ Some y → (y ≡ x) ⊎ (get_or xs k None ≡ Some y)
@@ -121,25 +123,17 @@ use_cases (a ∷ xs) (suc r) (suc k) x y e = use_cases xs r k x y e
 -- one use more, whose access the budget affords
 pub sound_use : (cs : List Component) (count k r x : ℕ) → k < length cs → k < count → Within 1 (get_or cs k absent).budget x → Sound cs count → Sound (set cs k (with_use (get_or cs k absent) r x)) count
 sound_use cs count k r x l m access h =
-    let new = with_use (get_or cs k absent) r x in (
-      λ i n. placed InRange cs k i new l (λ e. h.0 k m) (λ ne. h.0 i n),
-      (
-        distinct_kept cs count k new l refl h.1.0,
-        (
-          λ i t. placed (λ c. t < c.tasks → Within 1 1000000 (get_or c.deadlines t 0)) cs k i new l (λ e. h.1.1.0 k t) (λ ne. h.1.1.0 i t),
-          (
-            λ i q y.
-                placed (λ c. get_or c.accesses q None ≡ Some y → 1 ≤ y) cs k i new l
-                (λ e s. ⊎_elim (λ z. omega arith) (λ z. h.1.1.1.0 k q y z) (use_cases (get_or cs k absent).accesses r q x y s))
-                (λ ne. h.1.1.1.0 i q y),
-            (
-              λ i q y.
-                  placed (λ c. get_or c.accesses q None ≡ Some y → y ≤ c.budget) cs k i new l
-                  (λ e s. ⊎_elim (λ z. omega arith) (λ z. h.1.1.1.1.0 k q y z) (use_cases (get_or cs k absent).accesses r q x y s))
-                  (λ ne. h.1.1.1.1.0 i q y),
-              tt,
-            ),
-          ),
-        ),
-      ),
-    )
+    let new = with_use (get_or cs k absent) r x in
+    record {
+      ranges = λ i n. placed InRange cs k i new l (λ e. h.ranges k m) (λ ne. h.ranges i n);
+      distinct = distinct_kept cs count k new l refl h.distinct;
+      deadlines = λ i t. placed (λ c. t < c.tasks → Within 1 1000000 (get_or c.deadlines t 0)) cs k i new l (λ e. h.deadlines k t) (λ ne. h.deadlines i t);
+      accesses = λ i q y.
+          placed (λ c. get_or c.accesses q None ≡ Some y → 1 ≤ y) cs k i new l
+          (λ e s. ⊎_elim (λ z. omega arith) (λ z. h.accesses k q y z) (use_cases (get_or cs k absent).accesses r q x y s))
+          (λ ne. h.accesses i q y);
+      affordable = λ i q y.
+          placed (λ c. get_or c.accesses q None ≡ Some y → y ≤ c.budget) cs k i new l
+          (λ e s. ⊎_elim (λ z. omega arith) (λ z. h.affordable k q y z) (use_cases (get_or cs k absent).accesses r q x y s))
+          (λ ne. h.affordable i q y);
+    }

@@ -9,7 +9,7 @@ returns-then-line-gt-LONGEST c = read_as c.args.line.now (Err TooLong) (omega ar
 
 pub returns-in_err-command : goal.returns-in_err-command
 returns-in_err-command c =
-    let p = err_from_is_err_and c.from-residual.result c.from-residual.ensures.1 in
+    let p = err_from_is_err_and c.from_residual.result c.from_residual.ensures.1 in
     rw (p.1, p.2) (read_as c.args.line.now (Err (Form _)) (omega arith, c.in_err-command.ensures))
 
 pub returns : goal.returns

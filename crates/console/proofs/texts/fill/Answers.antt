@@ -9,7 +9,7 @@ loop-byte-init c = (nothing c.args.out.now _, omega arith, refl)
 
 pub returns-in_err-push_text : goal.returns-in_err-push_text
 returns-in_err-push_text c =
-    let p = err_from_is_err_and c.from-residual.result c.from-residual.ensures.1 in
+    let p = err_from_is_err_and c.from_residual.result c.from_residual.ensures.1 in
     rw p.1 (record { memory = after (omega arith) c.loop-byte.invariant.0 c.in_err-push_text.ensures.memory; text = tt })
 
 pub loop-byte-preserved-then-byte-ne35 : goal.loop-byte-preserved-then-byte-ne35
@@ -28,7 +28,7 @@ loop-byte-preserved-then-next-numbers c = (
 
 pub returns-in_err-push_number : goal.returns-in_err-push_number
 returns-in_err-push_number c =
-    let p = err_from_is_err_and c.from-residual-in_err-push_number.result c.from-residual-in_err-push_number.ensures.1 in
+    let p = err_from_is_err_and c.from_residual-in_err-push_number.result c.from_residual-in_err-push_number.ensures.1 in
     rw p.1 (record { memory = after (omega arith) c.loop-byte.invariant.0 c.in_err-push_number.ensures.memory; text = tt })
 
 pub loop-byte-preserved : goal.loop-byte-preserved

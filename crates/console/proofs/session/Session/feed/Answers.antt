@@ -15,7 +15,7 @@ loop-byte-preserved-then-byte-ne10 c = (
 
 pub returns-in_err-end_line : goal.returns-in_err-end_line
 returns-in_err-end_line c =
-    let p = err_from_is_err_and c.from-residual.result c.from-residual.ensures.1 in
+    let p = err_from_is_err_and c.from_residual.result c.from_residual.ensures.1 in
     rw p.1 (record { memory = after (omega arith) c.loop-byte.invariant.0 c.in_err-end_line.ensures.memory; answers = tt })
 
 pub loop-byte-preserved : goal.loop-byte-preserved

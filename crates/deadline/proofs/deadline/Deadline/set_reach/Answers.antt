@@ -8,7 +8,7 @@ use Rattle.deadline.proofs.deadline.Deadline.set_reach.Goals as goal
 pub invariant_of-self : goal.invariant_of-self
 invariant_of-self c =
     let b = c.args.self.now in
-    (b.fits, (reset_same b c.set_reach.new.self c.args.reach c.set_reach.result c.set_reach.ensures.refusal c.set_reach.ensures.kept c.set_reach.ensures.set, (b.apart, (b.in_order, tt))))
+    record { fits = b.fits; same = reset_same b c.set_reach.new.self c.args.reach c.set_reach.result c.set_reach.ensures.refusal c.set_reach.ensures.kept c.set_reach.ensures.set; apart = b.apart; in_order = b.in_order }
 
 pub returns-in_err-set_reach : goal.returns-in_err-set_reach
 returns-in_err-set_reach c =

@@ -21,7 +21,7 @@ invariant_of-self-2 c =
     let new = add_accepted (fixed_means b.sets) c.args.component c.args.task c.in_ok-add.ensures.refusal in
     let line = (what_made _ c.add-2.result (c.add-2.ensures.refusal ∙ sym (place_left b long _ _ new)) c.add-2.ensures.added).1 in
     let s = grown b long c.add.new.self c.add-2.new.self c.add-2.new.places c.add-2.auto.places _ new.2 c.in_ok-add.ensures.gains.0 line in
-    (s.fits, (s.same, (s.apart, (s.in_order, tt))))
+    record { fits = s.fits; same = s.same; apart = s.apart; in_order = s.in_order }
 
 -- the line is not full
 pub returns-in_err-add-2 : goal.returns-in_err-add-2

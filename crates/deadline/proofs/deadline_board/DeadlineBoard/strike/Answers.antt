@@ -28,7 +28,7 @@ invariant_of-self-2 c =
     let line = what_made _ c.take.result (c.take.ensures.refusal ∙ sym found) c.take.ensures.taken in
     let s = shrunk b long c.strike.new.self c.take.new.self c.take.new.places c.take.auto.places k t line.0 c.in_ok-strike.ensures.loses.0
     (subst (λ n. Taken job_le n line.0 b.line b.places c.take.new.self c.take.new.places) at line.1) in
-    (s.fits, (s.same, (s.apart, (s.in_order, tt))))
+    record { fits = s.fits; same = s.same; apart = s.apart; in_order = s.in_order }
 
 -- a pending job is in the line
 pub returns-in_err-take : goal.returns-in_err-take

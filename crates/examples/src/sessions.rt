@@ -39,7 +39,7 @@ fn the_report_counts(rt: HostRuntime) -> Result<(), Fail> {
     report.write(b"plan.txt", &mut out)?;
     assert!(rt;
         out.as_slice()
-            == b"plan.txt: lines 8, accepted 4, refused 3, unreadable 1; components 1, tasks 1, uses 1\n"
+            == b"plan.txt: lines 8, accepted 4, refused 3, unreadable 1; components 1, tasks 1, uses 1\n".as_slice()
     );
     Ok(())
 }

@@ -16,7 +16,7 @@ invariant_of-self c =
     let long : length was.components ≡ 8 = search rules in
     let sound : Sound was.components was.count = record { ranges = was.ranges; distinct = was.distinct; deadlines = was.deadlines; accesses = was.accesses; affordable = was.affordable } in
     let s = subst (λ x. Sound (set was.components was.count x) (was.count + 1)) (sym c.new.ensures)
-          (sound_more _ _ _ _ _ (omega arith) fits.level fits.period fits.budget fits.free sound) in
+    (sound_more _ _ _ _ _ (omega arith) fits.level fits.period fits.budget fits.free sound) in
     record { few = omega arith; ranges = s.ranges; distinct = s.distinct; deadlines = s.deadlines; accesses = s.accesses; affordable = s.affordable }
 
 pub returns-in-None : goal.returns-in-None

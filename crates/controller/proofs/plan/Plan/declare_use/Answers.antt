@@ -13,5 +13,5 @@ invariant_of-self c =
     let long : length was.components ≡ 8 = search rules in
     let sound : Sound was.components was.count = record { ranges = was.ranges; distinct = was.distinct; deadlines = was.deadlines; accesses = was.accesses; affordable = was.affordable } in
     let s = subst (λ x. Sound (set was.components c.args.component x) was.count) (sym c.add_use.ensures)
-          (sound_use _ _ _ _ _ (omega arith) known fits.access sound) in
+    (sound_use _ _ _ _ _ (omega arith) known fits.access sound) in
     record { few = few; ranges = s.ranges; distinct = s.distinct; deadlines = s.deadlines; accesses = s.accesses; affordable = s.affordable }

@@ -17,5 +17,5 @@ invariant_of-self c =
     let sound : Sound was.components was.count = record { ranges = was.ranges; distinct = was.distinct; deadlines = was.deadlines; accesses = was.accesses; affordable = was.affordable } in
     let stored : get_or (set old.deadlines old.tasks c.args.deadline) old.tasks 0 ≡ c.args.deadline = subst (λ x. get_or x.deadlines old.tasks 0 ≡ c.args.deadline) after.after after.stored in
     let s = subst (λ x. Sound (set was.components c.args.component x) was.count) (sym after.after)
-          (sound_task _ _ _ _ (omega arith) known fits.room fits.deadline stored sound) in
+    (sound_task _ _ _ _ (omega arith) known fits.room fits.deadline stored sound) in
     record { few = few; ranges = s.ranges; distinct = s.distinct; deadlines = s.deadlines; accesses = s.accesses; affordable = s.affordable }

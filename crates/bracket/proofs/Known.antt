@@ -1,7 +1,7 @@
 -- Known forms: a line is read as a command exactly where it is the command's text.
 use Rattle.std.proofs.Common.{◌≡◌, ℕ, ◌^◌, ◌<◌, Bool, true, false, cond, ◌&&◌, ◌⊎◌, List, ◌∷◌, ◌++◌, Some, None, codes, decimal, Option, sym, refl, ap, ◌∙◌, subst, inl, inr, ⊎_elim, append_assoc, arith, take-append-drop}
 use Rattle.std.proofs.lemmas.Bool.{and_parts}
-use Rattle.std.specs.List.{prefix_len, AllByRecursion as All}
+use Rattle.std.specs.List.{prefix_len, AllByRecursion}
 use Rattle.std.specs.Str.{bytes_eq}
 use Rattle.bracket.specs.declared.commands.Kind.{Kind}
 use Rattle.bracket.specs.declared.commands.Kind.TheVariants.{Fixed, Deadline}
@@ -55,7 +55,7 @@ side_reads : (side : Side) (rest : List ℕ) → Small side.reach → side_item 
 side_reads side rest h =
     ap side_item (side_flat side rest) ∙ side_kinds side.kind (decimal side.reach ++ (codes ")" ++ rest)) ∙ ap (λ o. and_then o (closed side.kind)) (number_item_reads side.reach (codes ")" ++ rest) h refl)
 
-join_is : (bytes : List ℕ) (board : BoardText) → join_items bytes ≡ Some board → (codes " join" ++ bytes ≡ board_text board) × All Small (board_numbers board)
+join_is : (bytes : List ℕ) (board : BoardText) → join_items bytes ≡ Some board → (codes " join" ++ bytes ≡ board_text board) × AllByRecursion Small (board_numbers board)
 join_is bytes board h =
     let a = and_then_lem (side_item bytes) _ board h in
     let b = and_then_lem (side_item a.value.1) _ board a.gives in
@@ -63,29 +63,29 @@ join_is bytes board h =
     let m = side_is bytes a.value a.found in
     let n = side_is a.value.1 b.value b.found in
     let whole = m.0 ∙ ap (λ l. side_text a.value.0 ++ l) (n.0 ∙ ap (λ l. side_text b.value.0 ++ l) (same_text b.value.1 (codes ")") t.0)) in
-    subst (λ y. (codes " join" ++ bytes ≡ board_text y) × All Small (board_numbers y)) t.1 (ap (λ l. codes " join" ++ l) whole, (m.1, (n.1, tt)))
+    subst (λ y. (codes " join" ++ bytes ≡ board_text y) × AllByRecursion Small (board_numbers y)) t.1 (ap (λ l. codes " join" ++ l) whole, (m.1, (n.1, tt)))
 
 join_reads : (first second : Side) → Small first.reach → Small second.reach → join_items (side_text first ++ (side_text second ++ codes ")")) ≡ Some (Join first second)
 join_reads first second g h =
     ap (λ o. and_then o (λ a. and_then (side_item a.1) (λ b. cond (bytes_eq b.1 (codes ")")) (Some (Join a.0 b.0)) None))) (side_reads first (side_text second ++ codes ")") g)
     ∙ ap (λ o. and_then o (λ b. cond (bytes_eq b.1 (codes ")")) (Some (Join first b.0)) None)) (side_reads second (codes ")") h)
 
-single_is : (word bytes : List ℕ) (board : BoardText) → single_items word bytes ≡ Some board → (codes " " ++ (word ++ bytes) ≡ board_text board) × All Small (board_numbers board)
+single_is : (word bytes : List ℕ) (board : BoardText) → single_items word bytes ≡ Some board → (codes " " ++ (word ++ bytes) ≡ board_text board) × AllByRecursion Small (board_numbers board)
 single_is word bytes board h =
     let kind = and_then_lem (kind_of word) _ board h in
     let reach = and_then_lem (one_item (codes ")") bytes) _ board kind.gives in
     let n = one_is (codes ")") bytes reach.value reach.found in
     let same : Single (record { kind = kind.value; reach = reach.value }) ≡ board = cc in
     let whole = ap (λ w. w ++ bytes) (kind_is word kind.value _ _ refl refl kind.found) ∙ ap (λ l. kind_text kind.value ++ l) n.0 in
-    subst (λ y. (codes " " ++ (word ++ bytes) ≡ board_text y) × All Small (board_numbers y)) same (ap (λ l. codes " " ++ l) whole, (n.1, tt))
+    subst (λ y. (codes " " ++ (word ++ bytes) ≡ board_text y) × AllByRecursion Small (board_numbers y)) same (ap (λ l. codes " " ++ l) whole, (n.1, tt))
 
-joined : (rest : List ℕ) (board : BoardText) (j : Bool) → bytes_eq (run_of rest) (codes "join") ≡ j → cond j (join_items (past_run rest)) (single_items (run_of rest) (past_run rest)) ≡ Some board → (codes " " ++ rest ≡ board_text board) × All Small (board_numbers board)
+joined : (rest : List ℕ) (board : BoardText) (j : Bool) → bytes_eq (run_of rest) (codes "join") ≡ j → cond j (join_items (past_run rest)) (single_items (run_of rest) (past_run rest)) ≡ Some board → (codes " " ++ rest ≡ board_text board) × AllByRecursion Small (board_numbers board)
 joined rest board true e h =
     let p = join_is (past_run rest) board h in
     (ap (λ l. codes " " ++ l) (split rest ∙ ap (λ w. w ++ past_run rest) (same_text (run_of rest) (codes "join") e)) ∙ p.0, p.1)
 joined rest board false e h = let p = single_is (run_of rest) (past_run rest) board h in (ap (λ l. codes " " ++ l) (split rest) ∙ p.0, p.1)
 
-board_is : (bytes : List ℕ) (board : BoardText) → board_items bytes ≡ Some board → (bytes ≡ board_text board) × All Small (board_numbers board)
+board_is : (bytes : List ℕ) (board : BoardText) → board_items bytes ≡ Some board → (bytes ≡ board_text board) × AllByRecursion Small (board_numbers board)
 board_is bytes board h =
     let start = and_then_lem (after (codes " ") bytes) _ board h in
     let p = joined start.value board _ refl start.gives in
@@ -95,7 +95,7 @@ single_kinds : (kind : Kind) (rest : List ℕ) → board_items (codes " " ++ (ki
 single_kinds Fixed rest = refl
 single_kinds Deadline rest = refl
 
-board_reads : (board : BoardText) → All Small (board_numbers board) → board_items (board_text board) ≡ Some board
+board_reads : (board : BoardText) → AllByRecursion Small (board_numbers board) → board_items (board_text board) ≡ Some board
 board_reads (Single side) h =
     single_kinds side.kind (decimal side.reach ++ codes ")") ∙ ap (λ o. and_then o (λ reach. Some (Single (record { kind = side.kind; reach = reach })))) (one_reads (codes ")") side.reach h.0 refl)
 board_reads (Join first second) h = join_reads first second h.0 h.1.0
@@ -110,7 +110,7 @@ either : (word name items : List ℕ) (command : Command) (x y : Option Command)
 either word name items command x y f g true e h = f (same_text word name e) h
 either word name items command x y f g false e h = g h
 
-bare : (word name items : List ℕ) (it command : Command) (y : Option Command) → 40 ∷ (name ++ codes ")") ≡ text it → All Small (numbers it) → (y ≡ Some command → Says command word items)
+bare : (word name items : List ℕ) (it command : Command) (y : Option Command) → 40 ∷ (name ++ codes ")") ≡ text it → AllByRecursion Small (numbers it) → (y ≡ Some command → Says command word items)
     → (same : Bool) → (bytes_eq word name && bytes_eq items (codes ")")) ≡ same → cond same (Some it) y ≡ Some command → Says command word items
 bare word name items it command y t s g true e h =
     let p = and_parts (bytes_eq word name) (bytes_eq items (codes ")")) e in
@@ -121,7 +121,7 @@ bare word name items it command y t s g true e h =
 bare word name items it command y t s g false e h = g h
 
 -- forms of one, two and three numbers
-one_form : (name word items : List ℕ) (make : ℕ → Command) (command : Command) → ((a : ℕ) → text (make a) ≡ 40 ∷ (name ++ (item a ++ codes ")"))) → ((a : ℕ) → Small a → All Small (numbers (make a)))
+one_form : (name word items : List ℕ) (make : ℕ → Command) (command : Command) → ((a : ℕ) → text (make a) ≡ 40 ∷ (name ++ (item a ++ codes ")"))) → ((a : ℕ) → Small a → AllByRecursion Small (numbers (make a)))
     → word ≡ name → and_then (one_item (codes ")") items) (λ a. Some (make a)) ≡ Some command → Says command word items
 one_form name word items make command t s e h =
     let a = and_then_lem (one_item (codes ")") items) _ command h in
@@ -129,7 +129,7 @@ one_form name word items make command t s e h =
     let k : make a.value ≡ command = cc in
     subst (λ c. Says c word items) k (record { same = ap (λ w. 40 ∷ (w ++ items)) e ∙ ap (λ i. 40 ∷ (name ++ i)) p.0 ∙ sym (t a.value); small = s a.value p.1 })
 
-two_form : (name word items : List ℕ) (make : ℕ → ℕ → Command) (command : Command) → ((a b : ℕ) → text (make a b) ≡ 40 ∷ (name ++ (item a ++ (item b ++ codes ")")))) → ((a b : ℕ) → Small a → Small b → All Small (numbers (make a b)))
+two_form : (name word items : List ℕ) (make : ℕ → ℕ → Command) (command : Command) → ((a b : ℕ) → text (make a b) ≡ 40 ∷ (name ++ (item a ++ (item b ++ codes ")")))) → ((a b : ℕ) → Small a → Small b → AllByRecursion Small (numbers (make a b)))
     → word ≡ name → and_then (two_items (codes ")") items) (λ x. Some (make x.0 x.1)) ≡ Some command → Says command word items
 two_form name word items make command t s e h =
     let a = and_then_lem (two_items (codes ")") items) _ command h in
@@ -138,7 +138,7 @@ two_form name word items make command t s e h =
     subst (λ c. Says c word items) k (record { same = ap (λ w. 40 ∷ (w ++ items)) e ∙ ap (λ i. 40 ∷ (name ++ i)) p.0 ∙ sym (t a.value.0 a.value.1); small = s a.value.0 a.value.1 p.1 p.2 })
 
 three_form : (name word items : List ℕ) (make : ℕ → ℕ → ℕ → Command) (command : Command) → ((a b c : ℕ) → text (make a b c) ≡ 40 ∷ (name ++ (item a ++ (item b ++ (item c ++ codes ")")))))
-    → ((a b c : ℕ) → Small a → Small b → Small c → All Small (numbers (make a b c))) → word ≡ name → and_then (three_items (codes ")") items) (λ x. Some (make x.0 x.1 x.2)) ≡ Some command → Says command word items
+    → ((a b c : ℕ) → Small a → Small b → Small c → AllByRecursion Small (numbers (make a b c))) → word ≡ name → and_then (three_items (codes ")") items) (λ x. Some (make x.0 x.1 x.2)) ≡ Some command → Says command word items
 three_form name word items make command t s e h =
     let a = and_then_lem (three_items (codes ")") items) _ command h in
     let p = three_is (codes ")") items a.value a.found in
@@ -239,7 +239,7 @@ component_made level budget period s t u =
     (number_item_reads level (codes " (budget" ++ (item budget ++ (item period ++ codes "))"))) s refl)
     ∙ ap (λ o. and_then o (λ b. Some (Component level b.0 b.1))) (two_reads (codes "))") budget period t u refl)
 
-reads_text : (command : Command) → All Small (numbers command) → form_of (text command) ≡ Some command
+reads_text : (command : Command) → AllByRecursion Small (numbers command) → form_of (text command) ≡ Some command
 reads_text (Board board) h = draft_reads (codes "board") (board_text board) (Board board) refl (board_stops board) (ap (λ o. and_then o (λ b. Some (Board b))) (board_reads board h))
 reads_text (Component level budget period) h =
     draft_reads (codes "component") (item level ++ (codes " (budget" ++ (item budget ++ (item period ++ codes "))")))) (Component level budget period) refl refl (component_made level budget period h.0 h.1.0 h.1.1.0)

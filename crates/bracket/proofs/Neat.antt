@@ -2,7 +2,7 @@
 use Rattle.std.proofs.Common.{◌≡◌, ℕ, zero, suc, ◌+◌, ◌<◌, ◌≤◌, Bool, true, false, cond, ◌||◌, List, [], ◌∷◌, ◌++◌, length, Some, None, codes, decimal, sym, refl, ap, ◌∙◌, subst, arith, length-append}
 use Rattle.std.proofs.lemmas.Fmt.{length-decimal-le, decimal_nonempty}
 use Rattle.std.proofs.lemmas.Bool.{and_parts, or_right}
-use Rattle.std.specs.List.{prefix_len, AllByRecursion as All}
+use Rattle.std.specs.List.{prefix_len, AllByRecursion}
 use Rattle.bracket.specs.declared.words.Class.{Class}
 use Rattle.bracket.specs.declared.words.Class.TheVariants.{Open, Close, Space, Digit, Letter, Other}
 use Rattle.bracket.specs.declared.faults.WordFault.TheVariants.{Run}
@@ -114,7 +114,7 @@ neat_side : {most : ℕ} {rest : List ℕ} (side : Side) → Small side.reach �
 neat_side {most} {rest} side h n =
     subst (λ l. Neat (most + 28) l) (sym (side_flat side rest)) (neat_upto (omega arith) (neat_mark spaces (neat_kind side.kind opens (neat_item side.reach h (neat_mark closes n)))))
 
-neat_board : (board : BoardText) → All Small (board_numbers board) → Neat 70 (board_text board)
+neat_board : (board : BoardText) → AllByRecursion Small (board_numbers board) → Neat 70 (board_text board)
 neat_board (Single side) h = neat_upto (omega arith) (neat_kind side.kind spaces (neat_item side.reach h.0 close))
 neat_board (Join first second) h = neat_upto (omega arith) (neat_word (codes "join") spaces (omega arith) refl refl (neat_side first h.0 (neat_side second h.1.0 close)))
 
@@ -130,7 +130,7 @@ two_neat s t = neat_item _ s (one_neat t)
 three_neat : {a b c : ℕ} → Small a → Small b → Small c → Neat 52 (item a ++ (item b ++ (item c ++ codes ")")))
 three_neat s t u = neat_item _ s (two_neat t u)
 
-text_neat : (command : Command) → All Small (numbers command) → Neat 80 (text command)
+text_neat : (command : Command) → AllByRecursion Small (numbers command) → Neat 80 (text command)
 text_neat (Board board) h = neat_form (codes "board") (omega arith) (omega arith) refl refl (omega arith) (neat_board board h)
 text_neat (Component level budget period) h =
     neat_form (codes "component") (omega arith) (omega arith) refl refl (omega arith)

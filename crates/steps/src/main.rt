@@ -7,6 +7,7 @@ use console::Session;
 use std::alloc::AllocError;
 use std::fs::File;
 use std::io::{ErrorKind, Read, Write};
+use std::process::ExitCode;
 use std::{env, io};
 
 // As much of the input as is read at once.
@@ -104,29 +105,38 @@ fn explain(rt: &HostRuntime, name: &str, failure: &Failure) {
     };
 }
 
-fn main(rt: HostRuntime) -> Result<(), Failure> {
-    let args = match env::args(&rt) {
+// Answers each argument, or standard input without one, and explains the first failure, which ends the run.
+fn run(rt: &HostRuntime) -> Result<(), Failure> {
+    let args = match env::args(rt) {
         Ok(args) => args,
         Err(error) => {
             let failure = Failure::Read(error);
-            explain(&rt, "arguments", &failure);
+            explain(rt, "arguments", &failure);
             return Err(failure);
         }
     };
     let mut named = false;
     for name in args.skip(1) {
         named = true;
-        if let Err(failure) = open_and_answer(&rt, name.as_str()) {
-            explain(&rt, name.as_str(), &failure);
+        if let Err(failure) = open_and_answer(rt, name.as_str()) {
+            explain(rt, name.as_str(), &failure);
             return Err(failure);
         }
     }
     if named {
         return Ok(());
     }
-    if let Err(failure) = open_and_answer(&rt, "-") {
-        explain(&rt, "-", &failure);
+    if let Err(failure) = open_and_answer(rt, "-") {
+        explain(rt, "-", &failure);
         return Err(failure);
     }
     Ok(())
+}
+
+// The status says whether all was read and written. What went wrong was explained by then, so nothing more is printed.
+fn main(rt: HostRuntime) -> ExitCode {
+    match run(&rt) {
+        Ok(()) => ExitCode::SUCCESS,
+        Err(_) => ExitCode::FAILURE,
+    }
 }

@@ -3,6 +3,7 @@ use Rattle.std.proofs.Common.{◌≡◌, ℕ, zero, suc, ◌+◌, ◌<◌, ◌�
 use Rattle.std.proofs.lemmas.List.{get_or-set_same, get_or-set_other}
 use Rattle.std.proofs.lemmas.Bool.{cases_eq}
 use Rattle.controller.specs.declared.component.Component.{Component}
+use Rattle.controller.specs.declared.plan.Plan.{Plan}
 use Rattle.controller.specs.Rules.{fresh, vacant, absent, with_task, with_use, Within, InRange, Ranges, Distinct, Deadlines, Accesses, Affordable}
 
 -- what holds of the new component, and of the others as they were, holds at each place
@@ -20,6 +21,9 @@ pub record Sound (cs : List Component) (count : ℕ) : Type 0 where
   pub deadlines : Deadlines cs
   pub accesses : Accesses cs
   pub affordable : Affordable cs
+
+pub plan_sound : (p : Plan) → Sound p.components p.count
+plan_sound p = record { ranges = p.ranges; distinct = p.distinct; deadlines = p.deadlines; accesses = p.accesses; affordable = p.affordable }
 
 -- ---- a plan that declares nothing
 

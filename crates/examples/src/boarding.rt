@@ -3,6 +3,8 @@ ghost use Rattle.boards.specs.Boards.{empty_board};
 ghost use Rattle.std.proofs.Common.{rules};
 
 use boards::{Board, Either, Joined, is_empty};
+use bracket::{BoardText, Kind, Side};
+use console::make_board;
 use deadline::Deadline;
 use fixed::Fixed;
 use refusals::Refusal;
@@ -263,4 +265,34 @@ fn a_board_may_serve_no_component(rt: HostRuntime) -> Result<(), Fail> {
     assert!(rt; is_empty(&none));
     assert_eq!(rt; none.add(0, 0, 0), Err(Refusal::UnknownComponent));
     Ok(())
+}
+
+fn side(kind: Kind, reach: u64) -> Side {
+    Side { kind, reach }
+}
+
+#[test]
+fn a_text_asks_for_a_join_of_a_fixed_and_a_deadline_board(rt: HostRuntime) -> Result<(), Fail> {
+    let mut board = make_board(BoardText::Join(side(Kind::Fixed, 3), side(Kind::Deadline, 5)))?;
+    assert!(rt; board.reach() == 8);
+    assert!(rt; is_empty(&board));
+    for component in 2..4 {
+        assert_eq!(rt; board.add(component, 6, 1), Ok(()));
+        assert_eq!(rt; board.add(component, 1, 9), Ok(()));
+    }
+    assert_eq!(rt; board.pick(2), Some(1));
+    assert_eq!(rt; board.pick(3), Some(6));
+    Ok(())
+}
+
+#[test]
+fn a_text_with_a_reach_of_9_makes_no_board(rt: HostRuntime) {
+    assert_eq!(rt;
+        make_board(BoardText::Single(side(Kind::Fixed, 9))).err(),
+        Some(Refusal::ReachRange)
+    );
+    assert_eq!(rt;
+        make_board(BoardText::Join(side(Kind::Fixed, 8), side(Kind::Deadline, 9))).err(),
+        Some(Refusal::ReachRange)
+    );
 }

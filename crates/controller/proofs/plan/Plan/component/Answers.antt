@@ -5,7 +5,7 @@ use Rattle.controller.specs.Tables.{declared}
 use Rattle.controller.specs.Draft.{unless_refused}
 use Rattle.controller.specs.View.{tables}
 use Rattle.controller.proofs.Causes.{component_fits}
-use Rattle.controller.proofs.Places.{Sound, sound_more}
+use Rattle.controller.proofs.Places.{Sound, plan_sound, sound_more}
 use Rattle.controller.proofs.plan.Plan.component.Goals as goal
 
 pub invariant_of-self : goal.invariant_of-self
@@ -14,9 +14,8 @@ invariant_of-self c =
     let fits = component_fits (tables was) c.args.level c.args.budget c.args.period c.in-None.ensures in
     let room = fits.room in
     let long : length was.components ≡ 8 = search rules in
-    let sound : Sound was.components was.count = record { ranges = was.ranges; distinct = was.distinct; deadlines = was.deadlines; accesses = was.accesses; affordable = was.affordable } in
     let s = subst (λ x. Sound (set was.components was.count x) (was.count + 1)) (sym c.new.ensures)
-    (sound_more _ _ _ _ _ (omega arith) fits.level fits.period fits.budget fits.free sound) in
+    (sound_more _ _ _ _ _ (omega arith) fits.level fits.period fits.budget fits.free (plan_sound was)) in
     record { few = omega arith; ranges = s.ranges; distinct = s.distinct; deadlines = s.deadlines; accesses = s.accesses; affordable = s.affordable }
 
 pub returns-in-None : goal.returns-in-None

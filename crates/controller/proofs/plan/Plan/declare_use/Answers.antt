@@ -1,7 +1,7 @@
 use Rattle.std.proofs.Common.{◌≡◌, length, set, sym, subst, arith, rules}
 use Rattle.controller.specs.View.{tables}
 use Rattle.controller.proofs.Causes.{use_fits}
-use Rattle.controller.proofs.Places.{Sound, sound_use}
+use Rattle.controller.proofs.Places.{Sound, plan_sound, sound_use}
 use Rattle.controller.proofs.plan.Plan.declare_use.Goals as goal
 
 pub invariant_of-self : goal.invariant_of-self
@@ -11,7 +11,6 @@ invariant_of-self c =
     let known = fits.known in
     let few = was.few in
     let long : length was.components ≡ 8 = search rules in
-    let sound : Sound was.components was.count = record { ranges = was.ranges; distinct = was.distinct; deadlines = was.deadlines; accesses = was.accesses; affordable = was.affordable } in
     let s = subst (λ x. Sound (set was.components c.args.component x) was.count) (sym c.add_use.ensures)
-    (sound_use _ _ _ _ _ (omega arith) known fits.access sound) in
+    (sound_use _ _ _ _ _ (omega arith) known fits.access (plan_sound was)) in
     record { few = few; ranges = s.ranges; distinct = s.distinct; deadlines = s.deadlines; accesses = s.accesses; affordable = s.affordable }

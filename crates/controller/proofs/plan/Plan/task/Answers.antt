@@ -2,7 +2,7 @@ use Rattle.std.proofs.Common.{◌≡◌, length, get_or, set, sym, subst, arith,
 use Rattle.controller.specs.Rules.{absent}
 use Rattle.controller.specs.View.{tables}
 use Rattle.controller.proofs.Causes.{task_fits}
-use Rattle.controller.proofs.Places.{Sound, sound_task}
+use Rattle.controller.proofs.Places.{Sound, plan_sound, sound_task}
 use Rattle.controller.proofs.plan.Plan.task.Goals as goal
 
 pub invariant_of-self : goal.invariant_of-self
@@ -14,8 +14,7 @@ invariant_of-self c =
     let known = fits.known in
     let few = was.few in
     let long : length was.components ≡ 8 = search rules in
-    let sound : Sound was.components was.count = record { ranges = was.ranges; distinct = was.distinct; deadlines = was.deadlines; accesses = was.accesses; affordable = was.affordable } in
     let stored : get_or (set old.deadlines old.tasks c.args.deadline) old.tasks 0 ≡ c.args.deadline = subst (λ x. get_or x.deadlines old.tasks 0 ≡ c.args.deadline) after.after after.stored in
     let s = subst (λ x. Sound (set was.components c.args.component x) was.count) (sym after.after)
-    (sound_task _ _ _ _ (omega arith) known fits.room fits.deadline stored sound) in
+    (sound_task _ _ _ _ (omega arith) known fits.room fits.deadline stored (plan_sound was)) in
     record { few = few; ranges = s.ranges; distinct = s.distinct; deadlines = s.deadlines; accesses = s.accesses; affordable = s.affordable }

@@ -4,63 +4,63 @@
 ghost use Rattle.std.specs.Prelude.{◌≡◌};
 ghost use Rattle.refusals.specs.Numbers.{number_of};
 
-/// The cause for which a call is refused.
+/// The cause for which a call is refused, with the number by which it is reported.
 #[derive(Clone, Copy, PartialEq, Eq, Debug)]
 pub enum Refusal {
     /// A call of the draft while the plan runs, or any other call or question while it is drafted.
-    WrongPhase,
+    WrongPhase = 1,
     /// A ninth component.
-    ComponentLimit,
+    ComponentLimit = 2,
     /// A level outside 1 to 200.
-    LevelRange,
+    LevelRange = 3,
     /// A level that another component has.
-    LevelTaken,
+    LevelTaken = 4,
     /// A period outside 1 to 1,000,000.
-    PeriodRange,
+    PeriodRange = 5,
     /// A budget outside 1 to the period.
-    BudgetRange,
+    BudgetRange = 6,
     /// A component that is not declared, or not below a board's reach.
-    UnknownComponent,
+    UnknownComponent = 7,
     /// A ninth task of one component.
-    TaskLimit,
+    TaskLimit = 8,
     /// A deadline outside 1 to 1,000,000.
-    DeadlineRange,
+    DeadlineRange = 9,
     /// A resource above 15.
-    ResourceRange,
+    ResourceRange = 10,
     /// A second use of one resource by one component.
-    UseTwice,
+    UseTwice = 11,
     /// A longest access outside 1 to the component's budget.
-    AccessRange,
+    AccessRange = 12,
     /// A board's reach outside 1 to 8.
-    ReachRange,
+    ReachRange = 13,
     /// Sealing a plan that has no component.
-    NoComponents,
+    NoComponents = 14,
     /// A start above 10^15.
-    StartRange,
+    StartRange = 15,
     /// A board whose reach is below the number of components.
-    ReachTooSmall,
+    ReachTooSmall = 16,
     /// A board on which jobs are pending.
-    BoardNotEmpty,
+    BoardNotEmpty = 17,
     /// A task that is not declared, or, on a board, above 7.
-    UnknownTask,
+    UnknownTask = 18,
     /// A job that is pending already.
-    JobPending,
+    JobPending = 19,
     /// A caller that is not the one running.
-    NotRunning,
+    NotRunning = 20,
     /// A caller that holds a resource already.
-    AlreadyHolding,
+    AlreadyHolding = 21,
     /// A lock of a resource whose use is not declared.
-    UndeclaredUse,
+    UndeclaredUse = 22,
     /// An unlock of a resource that the caller's component does not hold.
-    NotHeld,
+    NotHeld = 23,
     /// A tick at clock 10^15.
-    ClockEnd,
+    ClockEnd = 24,
     /// A job that is not pending.
-    JobNotPending,
+    JobNotPending = 25,
     /// A line whose places are all taken.
-    LineFull,
+    LineFull = 26,
     /// A position in a line at or past the number of records that it holds.
-    PastEnd,
+    PastEnd = 27,
 }
 
 impl Refusal {
@@ -68,34 +68,6 @@ impl Refusal {
     pub fn number(self) -> u8
         ensures { result ≡ number_of self }
     {
-        match self {
-            Refusal::WrongPhase => 1,
-            Refusal::ComponentLimit => 2,
-            Refusal::LevelRange => 3,
-            Refusal::LevelTaken => 4,
-            Refusal::PeriodRange => 5,
-            Refusal::BudgetRange => 6,
-            Refusal::UnknownComponent => 7,
-            Refusal::TaskLimit => 8,
-            Refusal::DeadlineRange => 9,
-            Refusal::ResourceRange => 10,
-            Refusal::UseTwice => 11,
-            Refusal::AccessRange => 12,
-            Refusal::ReachRange => 13,
-            Refusal::NoComponents => 14,
-            Refusal::StartRange => 15,
-            Refusal::ReachTooSmall => 16,
-            Refusal::BoardNotEmpty => 17,
-            Refusal::UnknownTask => 18,
-            Refusal::JobPending => 19,
-            Refusal::NotRunning => 20,
-            Refusal::AlreadyHolding => 21,
-            Refusal::UndeclaredUse => 22,
-            Refusal::NotHeld => 23,
-            Refusal::ClockEnd => 24,
-            Refusal::JobNotPending => 25,
-            Refusal::LineFull => 26,
-            Refusal::PastEnd => 27,
-        }
+        self as u8
     }
 }

@@ -1,4 +1,3 @@
 pub mod Order
 pub mod Records
-pub mod Shifts
 pub mod Lines

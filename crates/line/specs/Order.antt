@@ -1,11 +1,11 @@
 -- A list in order, and a record that is put into it. `le x y` says that x is not greater than y.
-use Rattle.std.specs.Prelude.{ℕ, suc, Bool, true, cond, ◌&&◌, List, [], ◌∷◌}
+use Rattle.std.specs.Prelude.{ℕ, Bool, true, cond, ◌&&◌, List, [], ◌∷◌}
+use Rattle.std.specs.List.{prefix_len}
 
 module _ {X : Type 0} (le : X → X → Bool) where
   -- how many records at the front are not greater than r
   abbrev pub behind : X → List X → ℕ
-  behind r [] = 0
-  behind r (x ∷ xs) = cond (le x r) (suc (behind r xs)) 0
+  behind r records = prefix_len (λ x. le x r) records
 
   -- r stands behind those records, and before the rest
   abbrev pub insertion : X → List X → List X

@@ -1,12 +1,11 @@
 //! The line: how many records it holds of the memory that it is lent.
-ghost use Rattle.std.specs.Prelude.{◌≡◌, ◌≤◌, length, take, IfOk, OnErr, OnOk};
+ghost use Rattle.std.specs.Prelude.{◌≡◌, ◌≤◌, length, IfOk, OnErr, OnOk};
 ghost use Rattle.std.specs.List.{slice_get};
 ghost use Rattle.std.specs.Result.{result_ok, result_err};
 ghost use Rattle.line.specs.Order.{behind};
 ghost use Rattle.line.specs.Lines.{no_records, records_of, full_refusal, position_refusal, Kept, Added, Taken};
 
 use crate::ranked::Ranked;
-use crate::shifts::{shift_down, shift_up};
 use refusals::Refusal;
 
 /// A line of records in order. It holds the first so many records of its memory.
@@ -14,6 +13,7 @@ use refusals::Refusal;
 /// The memory is the owner's, who lends it at each call: the same slice each time, which only the
 /// line writes. A line has as many places as the slice has elements. With another slice a call is
 /// safe too, and takes the first of its elements for the records.
+// The count stands apart from the slice since a line is lent its memory at each call and keeps none.
 #[derive(Clone, Copy, PartialEq, Eq, Debug)]
 pub struct Line {
     held: usize,
@@ -24,12 +24,11 @@ fn place_for<R: Ranked>(records: &[R], item: &R) -> usize
     ensures within { result ≤ length records.now }
     ensures place { result ≡ behind R.Ranked.le item.now records.now }
 {
-    for (i, standing) in records.iter().enumerate() {
-        if !standing.at_most(item) {
-            return i;
-        }
-    }
-    records.len()
+    // A search in halves would count them only where the slice is in order, and `add` takes any.
+    records
+        .iter()
+        .take_while(|standing| standing.at_most(item))
+        .count()
 }
 
 impl Line {
@@ -47,21 +46,12 @@ impl Line {
         self.held
     }
 
-    // How many of the elements are records: with a slice that is too short, all of them.
-    fn count_in<R>(&self, places: &[R]) -> usize
-        ensures number { result ≡ length (records_of self.now places.now) }
-        ensures within { result ≤ length places.now }
-        ensures front { take result places.now ≡ records_of self.now places.now }
-    {
-        let Line { held } = *self;
-        held.min(places.len())
-    }
-
     /// The records, in their order.
     pub fn records<'a, R>(&self, places: &'a [R]) -> &'a [R]
         ensures { result.now ≡ records_of self.now places.now }
     {
-        &places[0..self.count_in(places)]
+        // Of a slice that is too short all elements are records.
+        &places[..self.held.min(places.len())]
     }
 
     /// Puts a record behind all that are not greater. Refused where every place is taken.
@@ -70,14 +60,13 @@ impl Line {
         ensures kept { OnErr result (Kept self.old places.old self.new places.new) }
         ensures added { OnOk result (Added R.Ranked.le item self.old places.old self.new places.new) }
     {
-        let Line { held } = *self;
-        if held >= places.len() {
+        if self.held >= places.len() {
             return Err(Refusal::LineFull);
         }
-        let at = place_for(&places[0..held], &item);
-        shift_up(places, at, held);
+        let at = place_for(self.records(places), &item);
+        places.copy_within(at..self.held, at + 1);
         places[at] = item;
-        *self = Line { held: held + 1 };
+        self.held += 1;
         Ok(())
     }
 
@@ -87,13 +76,10 @@ impl Line {
         ensures kept { OnErr result (Kept self.old places.old self.new places.new) }
         ensures taken { IfOk result (λ x. Taken R.Ranked.le at x self.old places.old self.new places.new) }
     {
-        let held = self.count_in(places);
-        if at >= held {
-            return Err(Refusal::PastEnd);
-        }
-        let item = places[at];
-        shift_down(places, at, held - 1);
-        *self = Line { held: held - 1 };
+        let item = self.read(places, at)?;
+        let held = self.records(places).len();
+        places.copy_within(at + 1..held, at);
+        self.held = held - 1;
         Ok(item)
     }
 
@@ -102,9 +88,9 @@ impl Line {
         ensures refusal { result_err result ≡ position_refusal (records_of self.now places.now) at }
         ensures value { result_ok result ≡ slice_get (records_of self.now places.now) at }
     {
-        if at >= self.count_in(places) {
-            return Err(Refusal::PastEnd);
-        }
-        Ok(places[at])
+        self.records(places)
+            .get(at)
+            .copied()
+            .ok_or(Refusal::PastEnd)
     }
 }

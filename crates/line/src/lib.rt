@@ -4,7 +4,6 @@
 mod kept;
 mod ranked;
 mod records;
-mod shifts;
 
 pub use kept::Line;
 pub use ranked::Ranked;

@@ -2,6 +2,7 @@
 ghost use Rattle.std.specs.Prelude.{◌≡◌, Bool, true, false};
 
 /// A record type with a total order of its own.
+// Not std's `Ord`: its laws say of two records that tie only that they compare as equal, and not that they are one.
 pub trait Ranked: Copy {
     // whether the first stands at or before the second
     ghost le: { Self → Self → Bool };

@@ -5,7 +5,7 @@ ghost use Rattle.std.proofs.Common.{rules};
 use crate::ranked::Ranked;
 
 /// A pending job of a deadline board.
-#[derive(Clone, Copy, PartialEq, Eq, Debug)]
+#[derive(Clone, Copy, PartialEq, Eq, PartialOrd, Ord, Debug)]
 pub struct Job {
     /// The time by which the job is due.
     pub due: u64,
@@ -27,15 +27,12 @@ impl Ranked for Job {
     ghost antisymmetric = { Prim.search rules };
 
     fn at_most(&self, other: &Job) -> bool {
-        self.due < other.due
-            || (self.due == other.due
-                && (self.component < other.component
-                    || (self.component == other.component && self.task <= other.task)))
+        self <= other
     }
 }
 
 /// The next refill of a component's budget.
-#[derive(Clone, Copy, PartialEq, Eq, Debug)]
+#[derive(Clone, Copy, PartialEq, Eq, PartialOrd, Ord, Debug)]
 pub struct Refill {
     /// The time of the refill.
     pub due: u64,
@@ -55,6 +52,6 @@ impl Ranked for Refill {
     ghost antisymmetric = { Prim.search rules };
 
     fn at_most(&self, other: &Refill) -> bool {
-        self.due < other.due || (self.due == other.due && self.component <= other.component)
+        self <= other
     }
 }

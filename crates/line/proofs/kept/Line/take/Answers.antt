@@ -1,14 +1,8 @@
-use Rattle.std.proofs.Common.{arith}
-use Rattle.std.proofs.lemmas.Bool.Decides.{nat_tests}
+use Rattle.std.proofs.Common.{refl, sym, ap, ◌∙◌}
+use Rattle.std.specs.Result.{result_ok}
 use Rattle.line.proofs.Changes.{taken}
 use Rattle.line.proofs.kept.Line.take.Goals as goal
 
-pub returns : goal.returns
-returns g c =
-    record {
-      refusal = grind (arith, nat_tests);
-      kept = tt;
-      taken =
-          taken g.R.Ranked.le _ _ c.args.places.now _ c.count_in-held.result _ c.count_in-held.ensures.front c.shift_down.auto.places g.met.R.Ranked.transitive _
-          c.count_in-held.ensures.within c.if-at-held.false c.index-places-at.is c.shift_down.ensures (omega arith);
-    }
+pub returns-clause-taken : goal.returns-clause-taken
+returns-clause-taken g c =
+    taken _ _ _ _ _ c.records-held.ensures _ _ _ g.met.R.Ranked.transitive (sym c.read.ensures.value ∙ ap result_ok c.in_ok-item.was) c.copy_within.ensures.after refl

@@ -3,6 +3,7 @@ use Rattle.std.proofs.Common.{◌≡◌, ℕ, zero, suc, ◌+◌, ◌-◌, ◌<�
 use Rattle.std.specs.List.{insert, remove, between, copy_within}
 use Rattle.std.proofs.lemmas.List.{length-take-le, take_more, take-take, set_at}
 use Rattle.std.proofs.lemmas.Slice.{between_is}
+use Rattle.std.proofs.lemmas.Grind.{common_steps}
 use Rattle.line.specs.Order.{behind, insertion, sorted}
 
 -- a copy one place up within the first h elements makes room for a record
@@ -37,11 +38,8 @@ module _ {X : Type 0} (le : X → X → Bool) where
   sorted_insertion total r (x ∷ y ∷ ys) h = grind (arith, total, sorted_insertion total r (y ∷ ys))
 
   pub sorted_removed : ((x y z : X) → le x y ≡ true → le y z ≡ true → le x z ≡ true) → (xs : List X) (i : ℕ) → sorted le xs ≡ true → sorted le (remove xs i) ≡ true
-  sorted_removed transitive [] zero h = refl
-  sorted_removed transitive [] (suc i) h = refl
-  sorted_removed transitive (x ∷ []) zero h = refl
-  sorted_removed transitive (x ∷ []) (suc zero) h = refl
-  sorted_removed transitive (x ∷ []) (suc (suc i)) h = refl
+  sorted_removed transitive [] i h = grind (arith, common_steps)
+  sorted_removed transitive (x ∷ []) i h = grind (arith, common_steps)
   sorted_removed transitive (x ∷ y ∷ ys) zero h = grind arith
   sorted_removed transitive (x ∷ y ∷ []) (suc zero) h = refl
   sorted_removed transitive (x ∷ y ∷ z ∷ zs) (suc zero) h = grind (arith, transitive x y z)

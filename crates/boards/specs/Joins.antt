@@ -1,19 +1,15 @@
 -- Two boards as one keep to what each keeps to, and change as the one changes to which a component belongs.
-use Rattle.std.specs.Prelude.{◌≡◌, ℕ, ◌+◌, ◌-◌, ◌<◌, ◌≤◌, min, Bool, true, false, cond, not, ◌&&◌, ◌||◌, None, nat_lt, refl}
+use Rattle.std.specs.Prelude.{◌≡◌, ℕ, ◌+◌, ◌-◌, ◌<◌, ◌≤◌, min, Bool, true, false, not, ◌&&◌, ◌||◌, refl}
 use Rattle.std.proofs.Common.{ap, arith}
 use Rattle.std.proofs.lemmas.Bool.Decides.{nat_tests}
-use Rattle.boards.specs.Boards.{Meaning, Lawful, Among, Changes, Gains, Loses}
+use Rattle.boards.specs.Boards.{Meaning, Lawful, Changes, Gains, Loses}
 use Rattle.boards.specs.JoinedBoards.{joined}
 
 pub joined_lawful : (a b : Meaning) → Lawful a → Lawful b → Lawful (joined a b)
 joined_lawful a b la lb = record {
   eight = omega arith;
   inside = λ c t h. let p = la.inside c t in let q = lb.inside (c - a.reach) t in let e = la.eight in grind (arith, nat_tests);
-  among = λ c.
-      elim (nat_lt c a.reach) as (λ x. Among (λ t. cond x (a.pending c t) (cond (nat_lt c 8) (b.pending (c - a.reach) t) false)) (cond x (a.picked c) (cond (nat_lt c 8) (b.picked (c - a.reach)) None))) [
-        | true ↦ la.among c
-        | false ↦ elim (nat_lt c 8) as (λ y. Among (λ t. cond y (b.pending (c - a.reach) t) false) (cond y (b.picked (c - a.reach)) None)) [ true ↦ lb.among (c - a.reach) | false ↦ λ t. refl ]
-      ];
+  among = λ c. let p = la.among c in let q = lb.among (c - a.reach) in grind (arith, nat_tests);
 }
 
 -- a change of one job only is such a change of the two boards

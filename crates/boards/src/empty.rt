@@ -9,10 +9,5 @@ pub fn is_empty<B: Board>(board: &B) -> bool
     ensures test { result ≡ not (occupied (B.Board.means board.now).pending) }
     ensures jobs { Decides result (Empty (B.Board.means board.now)) }
 {
-    for component in 0..board.reach() {
-        if board.pending(component) {
-            return false;
-        }
-    }
-    true
+    !(0..board.reach()).any(|component| board.pending(component))
 }

@@ -1,6 +1,6 @@
 //! Two boards as one.
 ghost use Rattle.std.specs.Prelude.{◌≡◌, ◌-◌};
-ghost use Rattle.boards.specs.JoinedBoards.{joined, BySide};
+ghost use Rattle.boards.specs.JoinedBoards.{joined, side_of, BySide};
 ghost use Rattle.boards.specs.Joins.{joined_lawful};
 
 use crate::board::Board;
@@ -14,12 +14,34 @@ pub struct Joined<F, S> {
     second: S,
 }
 
+/// The board that has a component, with the component's number there.
+#[derive(Clone, Copy)]
+enum Side {
+    First(u64),
+    Second(u64),
+}
+
 impl<F, S> Joined<F, S> {
     /// Joins two boards, whatever is pending on them.
     pub fn new(first: F, second: S) -> Joined<F, S>
         ensures { (result.first ≡ first) × (result.second ≡ second) }
     {
         Joined { first, second }
+    }
+}
+
+impl<F: Board, S: Board> Joined<F, S> {
+    fn side(&self, component: u64) -> Option<Side>
+        ensures { result ≡ side_of (F.Board.means self.now.first).reach (λ c. Some (Side.First c)) (λ c. Some (Side.Second c)) None component }
+    {
+        let own = self.first.reach();
+        if component < own {
+            Some(Side::First(component))
+        } else if component < 8 {
+            Some(Side::Second(component - own))
+        } else {
+            None
+        }
     }
 }
 
@@ -38,43 +60,33 @@ impl<F: Board, S: Board> Board for Joined<F, S> {
     }
 
     fn add(&mut self, component: u64, task: u64, due: u64) -> Result<(), Refusal> {
-        let own = self.first.reach();
-        if component < own {
-            return self.first.add(component, task, due);
+        match self.side(component) {
+            Some(Side::First(own)) => self.first.add(own, task, due),
+            Some(Side::Second(own)) => self.second.add(own, task, due),
+            None => Err(Refusal::UnknownComponent),
         }
-        if component >= 8 {
-            return Err(Refusal::UnknownComponent);
-        }
-        self.second.add(component - own, task, due)
     }
 
     fn strike(&mut self, component: u64, task: u64) -> Result<(), Refusal> {
-        let own = self.first.reach();
-        if component < own {
-            return self.first.strike(component, task);
+        match self.side(component) {
+            Some(Side::First(own)) => self.first.strike(own, task),
+            Some(Side::Second(own)) => self.second.strike(own, task),
+            None => Err(Refusal::UnknownComponent),
         }
-        if component >= 8 {
-            return Err(Refusal::UnknownComponent);
-        }
-        self.second.strike(component - own, task)
     }
 
     fn pending(&self, component: u64) -> bool {
-        let own = self.first.reach();
-        if component < own {
-            return self.first.pending(component);
+        match self.side(component) {
+            Some(Side::First(own)) => self.first.pending(own),
+            Some(Side::Second(own)) => self.second.pending(own),
+            None => false,
         }
-        component < 8 && self.second.pending(component - own)
     }
 
     fn pick(&self, component: u64) -> Option<u64> {
-        let own = self.first.reach();
-        if component < own {
-            return self.first.pick(component);
+        match self.side(component)? {
+            Side::First(own) => self.first.pick(own),
+            Side::Second(own) => self.second.pick(own),
         }
-        if component >= 8 {
-            return None;
-        }
-        self.second.pick(component - own)
     }
 }

@@ -2,4 +2,3 @@ pub mod Tasks
 pub mod FixedBoards
 pub mod Fixeds
 pub mod Members
-pub mod Digits

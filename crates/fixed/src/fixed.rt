@@ -1,15 +1,118 @@
-//! The fixed board's table.
+//! The board by fixed priority: a set of tasks for each component.
 ghost use Rattle.std.specs.Prelude.{◌≤◌};
 ghost use Rattle.fixed.specs.Tasks.{ClearFrom};
 
 use crate::tasks::TaskSet;
+use boards::{Board, is_empty};
+use refusals::Refusal;
 
 /// A board that picks by fixed priority: the smaller a task's number is, the earlier it runs. It
 /// keeps one byte for each component.
 #[derive(Drop)]
 pub struct Fixed {
-    pub(crate) reach: u64,
-    pub(crate) sets: [TaskSet; 8],
+    reach: u64,
+    sets: [TaskSet; 8],
     ghost eight: { reach ≤ 8 },
     ghost clear: { ClearFrom reach sets },
+}
+
+impl Fixed {
+    ghost use Rattle.std.specs.Prelude.{◌≡◌, IfOk, OnErr, OnOk};
+    ghost use Rattle.std.specs.Result.{result_err};
+    ghost use Rattle.boards.specs.Boards.{empty_board, job_refusal, reach_refusal};
+    ghost use Rattle.fixed.specs.Tasks.{set_at};
+    ghost use Rattle.fixed.specs.FixedBoards.{fixed_means};
+
+    /// A board of reach 8 on which no job is pending.
+    pub fn new() -> Fixed
+        ensures { fixed_means result ≡ empty_board 8 }
+    {
+        Fixed {
+            reach: 8,
+            sets: [TaskSet::new(); 8],
+        }
+    }
+
+    /// Sets the reach, from 1 to 8, of a board on which no job is pending.
+    pub fn set_reach(&mut self, reach: u64) -> Result<(), Refusal>
+        ensures refusal { result_err result ≡ reach_refusal (fixed_means self.old) reach }
+        ensures kept { OnErr result (self.new ≡ self.old) }
+        ensures set { OnOk result (fixed_means self.new ≡ empty_board reach) }
+    {
+        if !(1..=8).contains(&reach) {
+            return Err(Refusal::ReachRange);
+        }
+        if !is_empty(self) {
+            return Err(Refusal::BoardNotEmpty);
+        }
+        self.reach = reach;
+        Ok(())
+    }
+
+    // The component's set, for a call on one of its tasks. The call writes it back: a `&mut` to it
+    // would need a starred clause with the proof of `clear` at each value that may be left there.
+    fn tasks_of(&self, component: u64, task: u64) -> Result<TaskSet, Refusal>
+        ensures refusal { result_err result ≡ job_refusal (fixed_means self.now) component task }
+        ensures set { IfOk result (λ set. set ≡ set_at self.now.sets component) }
+    {
+        if component >= self.reach {
+            return Err(Refusal::UnknownComponent);
+        }
+        if task > 7 {
+            return Err(Refusal::UnknownTask);
+        }
+        Ok(self.sets[component as usize])
+    }
+}
+
+impl Board for Fixed {
+    ghost use Rattle.std.specs.Prelude.{◌≡◌};
+    ghost use Rattle.fixed.specs.Tasks.{Smallest};
+    ghost use Rattle.fixed.specs.FixedBoards.{fixed_pending, fixed_means};
+    ghost use Rattle.fixed.specs.Fixeds.{fixed_lawful};
+
+    ghost means = { fixed_means };
+
+    // the board keeps nothing beyond its meaning
+    ghost added = { λ _ _ _ _ _. Unit {0} };
+
+    ghost struck = { λ _ _ _ _. Unit {0} };
+
+    ghost lawful = { fixed_lawful };
+
+    fn reach(&self) -> u64 {
+        self.reach
+    }
+
+    fn add(&mut self, component: u64, task: u64, _due: u64) -> Result<(), Refusal> {
+        let set = self.tasks_of(component, task)?;
+        if set.contains(task) {
+            return Err(Refusal::JobPending);
+        }
+        self.sets[component as usize] = set.with(task);
+        Ok(())
+    }
+
+    fn strike(&mut self, component: u64, task: u64) -> Result<(), Refusal> {
+        let set = self.tasks_of(component, task)?;
+        if !set.contains(task) {
+            return Err(Refusal::JobNotPending);
+        }
+        self.sets[component as usize] = set.without(task);
+        Ok(())
+    }
+
+    fn pending(&self, component: u64) -> bool {
+        component < self.reach && !self.sets[component as usize].is_empty()
+    }
+
+    fn pick(&self, component: u64) -> Option<u64>
+        ensures is { result ≡ (fixed_means self.now).picked component }
+        ensures smallest { Smallest (fixed_pending self.now component) result }
+    {
+        if component >= self.reach {
+            return None;
+        }
+        self.sets[component as usize].smallest()
+    }
 }

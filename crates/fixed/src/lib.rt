@@ -2,7 +2,6 @@
 #![tactic(auto)]
 
 mod fixed;
-mod fixed_board;
 mod tasks;
 
 pub use fixed::Fixed;

@@ -1,6 +1,6 @@
 use Rattle.std.proofs.Common.{replicate}
-use Rattle.fixed.specs.Members.{none_anywhere}
 use Rattle.fixed.specs.Fixeds.{empty_sets}
+use Rattle.fixed.proofs.Sets.{none_anywhere}
 use Rattle.fixed.proofs.fixed.Fixed.new.Goals as goal
 
 pub returns : goal.returns

@@ -1,0 +1,36 @@
+-- Sets of tasks, by their bytes.
+use Rattle.std.proofs.Common.{◌≡◌, ℕ, ◌^◌, ◌<◌, Bool, false, Some, None, Option, replicate, refl, ap, arith, w8}
+use Rattle.std.specs.Int.{trailing_zeros}
+use Rattle.std.proofs.lemmas.List.{get_or-replicate, get_or_past, length-replicate}
+use Rattle.std.proofs.lemmas.Nat.Bits.{bit_at-zero, bit_at-trailing_zeros}
+use Rattle.std.proofs.lemmas.Bool.Decides.{nat_tests}
+use Rattle.fixed.specs.Tasks.{member, no_tasks, set_at, smallest, Smallest}
+use Rattle.fixed.specs.Members.{smallest_is}
+use Rattle.fixed.specs.declared.tasks.TaskSet.{TaskSet}
+
+-- there is one smallest task
+same_smallest : (set : ℕ → Bool) (a b : Option ℕ) → Smallest set a → Smallest set b → a ≡ b
+same_smallest set None None p q = refl
+same_smallest set None (Some t) p q = let e = p t in cc
+same_smallest set (Some s) None p q = let e = q s in cc
+same_smallest set (Some s) (Some t) p q = let e = p.1 t in let f = q.1 s in grind arith
+
+module _ (s : TaskSet) where
+  pub smallest_alone : (pick : Option ℕ) → Smallest (member s) pick → pick ≡ smallest (member s)
+  smallest_alone pick h = same_smallest (member s) pick _ h (smallest_is s)
+
+  -- of the byte 0 there is no task, and of any other its lowest bit
+  pub none_of_zero : s.bits ≡ 0 → (t : ℕ) → member s t ≡ false
+  none_of_zero e t = let zero = bit_at-zero t in grind (arith, nat_tests)
+
+  pub lowest_smallest : 0 < s.bits → s.bits < 2 ^ 8 → Smallest (member s) (Some (trailing_zeros w8 s.bits))
+  lowest_smallest some byte = let low = bit_at-trailing_zeros w8 s.bits some byte in (grind (arith, nat_tests), λ u lt. let e = low.2 u lt in grind (arith, nat_tests))
+
+-- a table of empty sets has no task for any component
+pub none_anywhere : (n : ℕ) (s : TaskSet) → s ≡ no_tasks → (c t : ℕ) → member (set_at (replicate n s) c) t ≡ false
+none_anywhere n s e c t =
+    let inside = get_or-replicate n c s no_tasks in
+    let past = get_or_past (replicate n s) c no_tasks in
+    let long = length-replicate n s in
+    let here : set_at (replicate n s) c ≡ no_tasks = grind arith in
+    none_of_zero (set_at (replicate n s) c) (ap (λ x. x.bits) here) t

@@ -18,7 +18,8 @@ pub struct Fixed {
 }
 
 impl Fixed {
-    ghost use Rattle.std.specs.Prelude.{◌≡◌, IfOk, OnErr, OnOk};
+    ghost use Rattle.std.specs.Prelude.{◌≡◌, IfOk, OnErr, OnOk, nat_lt};
+    ghost use Rattle.std.specs.Bool.{then_some};
     ghost use Rattle.std.specs.Result.{result_err};
     ghost use Rattle.boards.specs.Boards.{empty_board, job_refusal, reach_refusal};
     ghost use Rattle.fixed.specs.Tasks.{set_at};
@@ -50,19 +51,24 @@ impl Fixed {
         Ok(())
     }
 
+    // The component's set, if the component is below the reach.
+    fn tasks_of(&self, component: u64) -> Option<TaskSet>
+        ensures { result ≡ then_some (nat_lt component self.now.reach) (set_at self.now.sets component) }
+    {
+        (component < self.reach).then(|| self.sets[component as usize])
+    }
+
     // The component's set, for a call on one of its tasks. The call writes it back: a `&mut` to it
     // would need a starred clause with the proof of `clear` at each value that may be left there.
-    fn tasks_of(&self, component: u64, task: u64) -> Result<TaskSet, Refusal>
+    fn tasks_of_job(&self, component: u64, task: u64) -> Result<TaskSet, Refusal>
         ensures refusal { result_err result ≡ job_refusal (fixed_means self.now) component task }
         ensures set { IfOk result (λ set. set ≡ set_at self.now.sets component) }
     {
-        if component >= self.reach {
-            return Err(Refusal::UnknownComponent);
-        }
+        let set = self.tasks_of(component).ok_or(Refusal::UnknownComponent)?;
         if task > 7 {
             return Err(Refusal::UnknownTask);
         }
-        Ok(self.sets[component as usize])
+        Ok(set)
     }
 }
 
@@ -86,7 +92,7 @@ impl Board for Fixed {
     }
 
     fn add(&mut self, component: u64, task: u64, _due: u64) -> Result<(), Refusal> {
-        let set = self.tasks_of(component, task)?;
+        let set = self.tasks_of_job(component, task)?;
         if set.contains(task) {
             return Err(Refusal::JobPending);
         }
@@ -95,7 +101,7 @@ impl Board for Fixed {
     }
 
     fn strike(&mut self, component: u64, task: u64) -> Result<(), Refusal> {
-        let set = self.tasks_of(component, task)?;
+        let set = self.tasks_of_job(component, task)?;
         if !set.contains(task) {
             return Err(Refusal::JobNotPending);
         }
@@ -104,16 +110,13 @@ impl Board for Fixed {
     }
 
     fn pending(&self, component: u64) -> bool {
-        component < self.reach && !self.sets[component as usize].is_empty()
+        self.tasks_of(component).is_some_and(|set| !set.is_empty())
     }
 
     fn pick(&self, component: u64) -> Option<u64>
         ensures is { result ≡ (fixed_means self.now).picked component }
         ensures smallest { Smallest (fixed_pending self.now component) result }
     {
-        if component >= self.reach {
-            return None;
-        }
-        self.sets[component as usize].smallest()
+        self.tasks_of(component)?.smallest()
     }
 }

@@ -1,5 +1,5 @@
 -- Sets of tasks, by their bytes.
-use Rattle.std.proofs.Common.{◌≡◌, ℕ, ◌^◌, ◌<◌, Bool, false, Some, None, Option, replicate, refl, ap, arith, w8}
+use Rattle.std.proofs.Common.{◌≡◌, ℕ, ◌^◌, ◌<◌, Bool, true, false, Some, None, Option, replicate, refl, ap, arith, w8}
 use Rattle.std.specs.Int.{trailing_zeros}
 use Rattle.std.proofs.lemmas.List.{get_or-replicate, get_or_past, length-replicate}
 use Rattle.std.proofs.lemmas.Nat.Bits.{bit_at-zero, bit_at-trailing_zeros}
@@ -16,15 +16,25 @@ same_smallest set (Some s) None p q = let e = q s in cc
 same_smallest set (Some s) (Some t) p q = let e = p.1 t in let f = q.1 s in grind arith
 
 module _ (s : TaskSet) where
-  pub smallest_alone : (pick : Option ℕ) → Smallest (member s) pick → pick ≡ smallest (member s)
-  smallest_alone pick h = same_smallest (member s) pick _ h (smallest_is s)
+  is_smallest : (pick : Option ℕ) → Smallest (member s) pick → smallest (member s) ≡ pick
+  is_smallest pick h = same_smallest (member s) _ pick (smallest_is s) h
+
+  pub smallest_of_none : ((t : ℕ) → member s t ≡ false) → smallest (member s) ≡ None
+  smallest_of_none = is_smallest None
 
   -- of the byte 0 there is no task, and of any other its lowest bit
   pub none_of_zero : s.bits ≡ 0 → (t : ℕ) → member s t ≡ false
   none_of_zero e t = let zero = bit_at-zero t in grind (arith, nat_tests)
 
-  pub lowest_smallest : 0 < s.bits → s.bits < 2 ^ 8 → Smallest (member s) (Some (trailing_zeros w8 s.bits))
-  lowest_smallest some byte = let low = bit_at-trailing_zeros w8 s.bits some byte in (grind (arith, nat_tests), λ u lt. let e = low.2 u lt in grind (arith, nat_tests))
+  module _ (some : 0 < s.bits) (byte : s.bits < 2 ^ 8) where
+    lowest_smallest : Smallest (member s) (Some (trailing_zeros w8 s.bits))
+    lowest_smallest = let low = bit_at-trailing_zeros w8 s.bits some byte in (grind (arith, nat_tests), λ u lt. let e = low.2 u lt in grind (arith, nat_tests))
+
+    pub has_member : (t : ℕ) × (member s t ≡ true)
+    has_member = (trailing_zeros w8 s.bits, lowest_smallest.0)
+
+    pub smallest_of_some : smallest (member s) ≡ Some (trailing_zeros w8 s.bits)
+    smallest_of_some = is_smallest _ lowest_smallest
 
 -- a table of empty sets has no task for any component
 pub none_anywhere : (n : ℕ) (s : TaskSet) → s ≡ no_tasks → (c t : ℕ) → member (set_at (replicate n s) c) t ≡ false

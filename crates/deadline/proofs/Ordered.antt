@@ -2,6 +2,9 @@
 use Rattle.std.proofs.Common.{◌≡◌, ℕ, Bool, true, false, cond, ◌&&◌, ◌||◌, eqb, List, [], ◌∷◌, Some, None, Option, sym, refl, ap, ◌∙◌, subst, ⊎_elim, arith}
 use Rattle.std.proofs.lemmas.Bool.{cases_Bool, and_parts, and_from, or_cases, or_left, or_right, eqb-true, eq-eqb, false≢true}
 use Rattle.std.proofs.lemmas.Bool.Decides.{nat_tests}
+use Rattle.std.specs.Prelude.{◌==◌}
+use Rattle.std.specs.Option.{option_map}
+use Rattle.std.specs.List.{find}
 use Rattle.line.specs.declared.records.Job.{Job}
 use Rattle.line.specs.Records.{job_le}
 use Rattle.line.specs.Order.{sorted}
@@ -50,7 +53,7 @@ further c x xs (Some t) ne h = (
 pub first_earliest : (c : ℕ) (xs : List Job) → sorted job_le xs ≡ true → Earliest c xs (first_of c xs)
 first_earliest c [] o = λ t. refl
 first_earliest c (x ∷ xs) o =
-    let F : Bool → Type 0 = λ b. Earliest c (x ∷ xs) (cond b (Some x.task) (first_of c xs)) in
+    let F : Bool → Type 0 = λ b. Earliest c (x ∷ xs) (option_map (λ y. y.task) (cond b (Some x) (find (λ y. c == y.component) xs))) in
     ⊎_elim
     (λ (e : eqb c x.component ≡ true).
     let ec = eqb-true c x.component e in

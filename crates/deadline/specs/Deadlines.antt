@@ -1,10 +1,11 @@
 -- What a deadline board keeps to, and keeps as jobs come and go.
-use Rattle.std.specs.Prelude.{◌≡◌, ℕ, ◌<◌, ◌≤◌, true, false, not, ◌&&◌, ◌||◌, List, [], length, None, Ok, Err, Result, OnErr, OnOk, nat_eq, nat_le}
-use Rattle.std.proofs.Common.{sym, ap, ◌∙◌, arith}
+use Rattle.std.specs.Prelude.{◌≡◌, ℕ, ◌<◌, ◌≤◌, true, false, not, ◌&&◌, ◌||◌, List, [], length, None, Ok, Err, Result, IfOk, OnErr, OnOk, nat_eq, nat_le}
+use Rattle.std.proofs.Common.{sym, ap, ◌∙◌, subst, arith}
 use Rattle.std.proofs.Math.Path.{fun_ext}
 use mathlib.Core.HLevel.{is_prop→PathP, Π_prop}
 use Rattle.std.proofs.Math.Bool.{Bool-set}
 use Rattle.std.proofs.Math.Bridge.{le_prop}
+use Rattle.std.specs.List.{remove}
 use Rattle.std.specs.Result.{result_err}
 use Rattle.std.proofs.lemmas.List.{length-take}
 use Rattle.std.proofs.lemmas.Bool.{ne_eqb, lt-leb, cond-false}
@@ -13,14 +14,15 @@ use Rattle.line.specs.Order.{sorted}
 use Rattle.line.specs.Records.{job_le}
 use Rattle.line.specs.declared.kept.Line.{Line}
 use Rattle.line.specs.declared.records.Job.{Job}
-use Rattle.boards.specs.Boards.{Lawful, Gains, Loses, same_job, empty_board, reach_refusal}
-use Rattle.deadline.specs.Queues.{SameJobs, holds, distinct, place_of}
+use Rattle.boards.specs.Boards.{Lawful, Gains, Loses, same_job, empty_board, add_refusal, strike_refusal, reach_refusal}
+use Rattle.std.specs.List.{IsDistinct, IsDistinct-prop}
+use Rattle.deadline.specs.Queues.{SameJobs, holds, of_one_task, Distinct, place_of}
 use Rattle.fixed.specs.FixedBoards.{fixed_means, fixed_pending}
 use Rattle.deadline.specs.DeadlineBoards.{queue, queue_means, deadline_means}
 use Rattle.deadline.specs.declared.deadline.Deadline.{Deadline}
 use Rattle.fixed.specs.declared.fixed.Fixed.{Fixed}
 use Rattle.refusals.specs.declared.Refusal.{Refusal}
-use Rattle.boards.proofs.Calls.{reach_accepted}
+use Rattle.boards.proofs.Calls.{what_made, add_accepted, strike_accepted, reach_accepted}
 use Rattle.boards.proofs.Empties.{empty_is, empty_from}
 use Rattle.fixed.specs.Fixeds.{fixed_lawful}
 use Rattle.deadline.specs.Queued.{place_within, first_among, holds_insertion, distinct_insertion, holds_removed, distinct_removed}
@@ -43,7 +45,7 @@ same_board b b' s l p = λ i.
       places = p i;
       fits = is_prop→PathP (λ j. (l j).held ≤ 64) (λ j. le_prop) b'.fits b.fits i;
       same = is_prop→PathP (λ j. SameJobs (fixed_pending (s j)) (records_of (l j) (p j))) (λ j. Π_prop (λ c. Π_prop (λ t. Bool-set _ _))) b'.same b.same i;
-      apart = is_prop→PathP (λ j. distinct (records_of (l j) (p j)) ≡ true) (λ j. Bool-set _ _) b'.apart b.apart i;
+      apart = is_prop→PathP (λ j. Distinct (records_of (l j) (p j))) (λ j. IsDistinct-prop of_one_task _) b'.apart b.apart i;
       in_order = is_prop→PathP (λ j. sorted job_le (records_of (l j) (p j)) ≡ true) (λ j. Bool-set _ _) b'.in_order b.in_order i;
     }
 
@@ -55,7 +57,7 @@ jobs_are b = fun_ext (λ c. fun_ext (λ t. b.same c t))
 pub record Sound (sets : Fixed) (l : Line) (m : List Job) : Type 0 where
   pub fits : l.held ≤ 64
   pub same : SameJobs (fixed_pending sets) (records_of l m)
-  pub apart : distinct (records_of l m) ≡ true
+  pub apart : Distinct (records_of l m)
   pub in_order : sorted job_le (records_of l m) ≡ true
 
 module _ (b : Deadline) (long : length b.places ≡ 64) (c t : ℕ) where
@@ -77,21 +79,34 @@ module _ (b : Deadline) (long : length b.places ≡ 64) (sets : Fixed) (l : Line
   size : (k : Line) (n : List Job) → k.held ≡ length (records_of k n) → length n ≡ 64 → k.held ≤ 64
   size k n h e = omega (arith, length-take k.held n)
 
-  pub grown : (x : Job) → fixed_pending b.sets x.component x.task ≡ false → Gains (fixed_means b.sets) (fixed_means sets) x.component x.task → Added job_le x b.line b.places l m → Sound sets l m
-  grown x none g a = record {
-    fits = size l m a.held (omega arith);
-    same = λ c t. ap (holds c t) a.listed ∙ holds_insertion job_le x c t (queue b) ∙ ap (λ p. p || same_job x.component x.task c t) (b.same c t) ∙ sym (g.sets c t);
-    apart = ap distinct a.listed ∙ distinct_insertion job_le x (queue b) b.apart (b.same x.component x.task ∙ none);
-    in_order = a.in_order b.in_order;
-  }
+  -- a job came, which was not pending
+  pub grown : (x : Job) (r : Result (Unit {0}) Refusal) → None ≡ add_refusal (fixed_means b.sets) x.component x.task → Gains (fixed_means b.sets) (fixed_means sets) x.component x.task → result_err r ≡ full_refusal (queue b) b.places → OnOk r (Added job_le x b.line b.places l m) → Sound sets l m
+  grown x r accepted g refusal added =
+      let new = add_accepted (fixed_means b.sets) x.component x.task accepted in
+      let a = (what_made _ r (refusal ∙ sym (place_left b long _ _ new)) added).1 in
+      record {
+        fits = size l m a.held (omega arith);
+        same = λ c t. ap (holds c t) a.listed ∙ holds_insertion job_le x c t (queue b) ∙ ap (λ p. p || same_job x.component x.task c t) (b.same c t) ∙ sym (g.sets c t);
+        apart = subst Distinct (sym a.listed) (distinct_insertion job_le x (queue b) b.apart (b.same x.component x.task ∙ new.2));
+        in_order = a.in_order b.in_order;
+      }
 
-  pub shrunk : (c t : ℕ) (x : Job) → Loses (fixed_means b.sets) (fixed_means sets) c t → Taken job_le (place_of c t (queue b)) x b.line b.places l m → Sound sets l m
-  shrunk c t x g a = record {
-    fits = size l m a.held (omega arith);
-    same = λ d u. ap (holds d u) a.listed ∙ holds_removed c t d u (queue b) b.apart ∙ ap (λ p. p && not (same_job c t d u)) (b.same d u) ∙ sym (g.sets d u);
-    apart = ap distinct a.listed ∙ distinct_removed (queue b) (place_of c t (queue b)) b.apart;
-    in_order = a.in_order b.in_order;
-  }
+  -- a pending job went
+  pub shrunk : (c t at : ℕ) → at ≡ place_of c t (queue b) → (r : Result Job Refusal) → None ≡ strike_refusal (fixed_means b.sets) c t → Loses (fixed_means b.sets) (fixed_means sets) c t → result_err r ≡ position_refusal (queue b) at → IfOk r (λ x. Taken job_le at x b.line b.places l m) → Sound sets l m
+  shrunk c t at is r accepted g refusal taken =
+      let old = strike_accepted (fixed_means b.sets) c t accepted in
+      let a = (what_made _ r (refusal ∙ sym (position_found b long c t at is old)) taken).1 in
+      let listed : records_of l m ≡ remove (queue b) (place_of c t (queue b)) = a.listed ∙ ap (remove (queue b)) is in
+      record {
+        fits = size l m a.held (omega arith);
+        same = λ d u. ap (holds d u) listed ∙ holds_removed c t d u (queue b) b.apart ∙ ap (λ p. p && not (same_job c t d u)) (b.same d u) ∙ sym (g.sets d u);
+        apart = subst Distinct (sym listed) (distinct_removed (queue b) (place_of c t (queue b)) b.apart);
+        in_order = a.in_order b.in_order;
+      }
+
+none_distinct : Distinct []
+unfolding IsDistinct
+none_distinct = tt
 
 -- a board that is made new
 pub nothing_held : (sets : Fixed) (l : Line) (m : List Job) → fixed_means sets ≡ empty_board 8 → l ≡ no_records → Sound sets l m
@@ -100,7 +115,7 @@ nothing_held sets l m empty none =
     record {
       fits = omega (arith, ap (λ k. k.held) none);
       same = λ c t. ap (holds c t) held ∙ sym (ap (λ k. k.pending c t) empty);
-      apart = ap distinct held;
+      apart = subst Distinct (sym held) none_distinct;
       in_order = ap (sorted job_le) held;
     }
 
@@ -108,8 +123,17 @@ nothing_held sets l m empty none =
 pub empty_queue : (n : ℕ) (jobs : List Job) → ((c t : ℕ) → holds c t jobs ≡ false) → queue_means n jobs ≡ empty_board n
 empty_queue n jobs none = empty_is (queue_means n jobs) (λ c. first_among c jobs) none
 
--- the line agrees with the fixed board after its reach was set, or was not
-pub reset_same : (b : Deadline) (sets : Fixed) (n : ℕ) (r : Result (Unit {0}) Refusal) → result_err r ≡ reach_refusal (fixed_means b.sets) n → OnErr r (sets ≡ b.sets) → OnOk r (fixed_means sets ≡ empty_board n) → SameJobs (fixed_pending sets) (queue b)
-reset_same b sets n (Ok x) e kept set c t =
-    b.same c t ∙ empty_from (fixed_means b.sets) (fixed_lawful b.sets) (reach_accepted (fixed_means b.sets) n e) c t ∙ sym (ap (λ k. k.pending c t) set)
-reset_same b sets n (Err y) e kept set c t = b.same c t ∙ ap (λ k. fixed_pending k c t) (sym kept)
+-- the reach of a board was set, or was not
+module _ (b : Deadline) (sets : Fixed) (n : ℕ) where
+  none_pending : None ≡ reach_refusal (fixed_means b.sets) n → (c t : ℕ) → holds c t (queue b) ≡ false
+  none_pending e c t = b.same c t ∙ empty_from (fixed_means b.sets) (fixed_lawful b.sets) (reach_accepted (fixed_means b.sets) n e) c t
+
+  -- the line agrees with the fixed board
+  pub reset_same : (r : Result (Unit {0}) Refusal) → result_err r ≡ reach_refusal (fixed_means b.sets) n → OnErr r (sets ≡ b.sets) → OnOk r (fixed_means sets ≡ empty_board n) → SameJobs (fixed_pending sets) (queue b)
+  reset_same (Ok x) e kept set c t = none_pending e c t ∙ sym (ap (λ k. k.pending c t) set)
+  reset_same (Err y) e kept set c t = b.same c t ∙ ap (λ k. fixed_pending k c t) (sym kept)
+
+  -- and the board is empty where it was set
+  pub reset_means : (r : Result (Unit {0}) Refusal) → result_err r ≡ reach_refusal (fixed_means b.sets) n → OnOk r (fixed_means sets ≡ empty_board n) → OnOk r (queue_means sets.reach (queue b) ≡ empty_board n)
+  reset_means (Ok x) e set = empty_queue sets.reach (queue b) (none_pending e) ∙ ap (λ m. empty_board m.reach) set
+  reset_means (Err y) e set = tt

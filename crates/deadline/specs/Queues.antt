@@ -1,5 +1,7 @@
 -- The jobs in a list.
-use Rattle.std.specs.Prelude.{◌≡◌, ℕ, suc, Bool, true, false, cond, not, ◌&&◌, ◌||◌, List, [], ◌∷◌, Some, None, Option, MatchOption, ◌==◌, nat_le, nat_lt}
+use Rattle.std.specs.Prelude.{◌≡◌, ℕ, Bool, true, false, ◌&&◌, ◌||◌, List, Option, MatchOption, ◌==◌, nat_le, nat_lt}
+use Rattle.std.specs.List.{IsDistinct, list_any, find, position_or_len}
+use Rattle.std.specs.Option.{option_map}
 use Rattle.line.specs.declared.records.Job.{Job}
 use Rattle.boards.specs.Boards.{same_job}
 
@@ -9,23 +11,23 @@ is_job x c t = same_job x.component x.task c t
 
 -- a job of the component's task is in the list
 abbrev pub holds : ℕ → ℕ → List Job → Bool
-holds c t [] = false
-holds c t (x ∷ xs) = is_job x c t || holds c t xs
+holds c t = list_any (λ x. is_job x c t)
 
 -- how many jobs stand before it
 abbrev pub place_of : ℕ → ℕ → List Job → ℕ
-place_of c t [] = 0
-place_of c t (x ∷ xs) = cond (is_job x c t) 0 (suc (place_of c t xs))
+place_of c t = position_or_len (λ x. is_job x c t)
 
 -- the task of the component's first job
 abbrev pub first_of : ℕ → List Job → Option ℕ
-first_of c [] = None
-first_of c (x ∷ xs) = cond (c == x.component) (Some x.task) (first_of c xs)
+first_of c jobs = option_map (λ x. x.task) (find (λ x. c == x.component) jobs)
+
+-- the two jobs are of one component and one task
+abbrev pub of_one_task : Job → Job → Bool
+of_one_task x y = is_job y x.component x.task
 
 -- no two jobs are of one component and one task
-abbrev pub distinct : List Job → Bool
-distinct [] = true
-distinct (x ∷ xs) = not (holds x.component x.task xs) && distinct xs
+abbrev pub Distinct : List Job → Type 0
+Distinct = IsDistinct of_one_task
 
 -- the jobs in the list are the pending ones
 abbrev pub SameJobs : (ℕ → ℕ → Bool) → List Job → Type 0
@@ -33,8 +35,7 @@ SameJobs pending jobs = (c t : ℕ) → holds c t jobs ≡ pending c t
 
 -- a job of the component's task is in the list, due at the time e
 abbrev pub holds_due : ℕ → ℕ → ℕ → List Job → Bool
-holds_due e c t [] = false
-holds_due e c t (x ∷ xs) = (e == x.due && is_job x c t) || holds_due e c t xs
+holds_due e c t = list_any (λ x. e == x.due && is_job x c t)
 
 -- a job of task t due at e goes no later than one of task u due at f
 abbrev pub no_later : ℕ → ℕ → ℕ → ℕ → Bool

@@ -1,29 +1,134 @@
-//! The deadline board's tables.
+//! The deadline board.
 ghost use Rattle.std.specs.Prelude.{◌≡◌, ◌≤◌, true};
+ghost use Rattle.std.proofs.Props.{props};
 ghost use Rattle.line.specs.Lines.{records_of};
 ghost use Rattle.line.specs.Order.{sorted};
 ghost use Rattle.line.specs.Records.{job_le};
 ghost use Rattle.fixed.specs.FixedBoards.{fixed_pending};
-ghost use Rattle.deadline.specs.Queues.{SameJobs, distinct};
+ghost use Rattle.deadline.specs.Queues.{SameJobs, Distinct};
 
+use boards::Board;
 use fixed::Fixed;
 use line::{Job, Line};
+use refusals::Refusal;
 
 /// How many jobs can be pending at once: 8 tasks of 8 components.
-pub(crate) const JOBS: usize = 64;
+const JOBS: usize = 64;
 
 /// A board that picks by earliest deadline: the job with the smallest due time, and of those the
 /// smaller task.
 ///
 /// The jobs are kept twice: in a line, in the order of their due times, and on a fixed board, where
-/// one look at a byte tells whether a component has a job, or has this one.
+/// one look at a byte tells whether a component has a job, or has this one. The line's places are
+/// a table of the board's own, since a board allocates nothing.
 #[derive(Drop)]
 pub struct Deadline {
-    pub(crate) sets: Fixed,
-    pub(crate) line: Line,
-    pub(crate) places: [Job; JOBS],
+    sets: Fixed,
+    line: Line,
+    places: [Job; JOBS],
     ghost fits: { line.held ≤ 64 },
     ghost same: { SameJobs (fixed_pending sets) (records_of line places) },
-    ghost apart: { distinct (records_of line places) ≡ true },
+    ghost apart: { Distinct (records_of line places) } by { Prim.hlevel props },
     ghost in_order: { sorted job_le (records_of line places) ≡ true },
+}
+
+impl Deadline {
+    ghost use Rattle.std.specs.Prelude.{OnErr, OnOk};
+    ghost use Rattle.std.specs.Result.{result_err};
+    ghost use Rattle.boards.specs.Boards.{empty_board, reach_refusal};
+    ghost use Rattle.deadline.specs.Queues.{place_of, first_of};
+    ghost use Rattle.deadline.specs.DeadlineBoards.{queue, deadline_means};
+
+    /// A board of reach 8 on which no job is pending.
+    pub fn new() -> Deadline
+        ensures { deadline_means result ≡ empty_board 8 }
+    {
+        let unused = Job {
+            due: 0,
+            component: 0,
+            task: 0,
+        };
+        Deadline {
+            sets: Fixed::new(),
+            line: Line::new(),
+            places: [unused; JOBS],
+        }
+    }
+
+    /// Sets the reach, from 1 to 8, of a board on which no job is pending.
+    pub fn set_reach(&mut self, reach: u64) -> Result<(), Refusal>
+        ensures refusal { result_err result ≡ reach_refusal (deadline_means self.old) reach }
+        ensures kept { OnErr result (self.new ≡ self.old) }
+        ensures set { OnOk result (deadline_means self.new ≡ empty_board reach) }
+    {
+        self.sets.set_reach(reach)
+    }
+
+    // How many jobs stand in the line before that of the component's task; all where there is none.
+    fn place_of(&self, component: u64, task: u64) -> usize
+        ensures { result ≡ place_of component task (queue self.now) }
+    {
+        let jobs = self.line.records(&self.places);
+        jobs.iter()
+            .position(|job| u64::from(job.component) == component && u64::from(job.task) == task)
+            .unwrap_or(jobs.len())
+    }
+
+    // The task of the component's first job in the line.
+    fn first_of(&self, component: u64) -> Option<u64>
+        ensures { result ≡ first_of component (queue self.now) }
+    {
+        self.line
+            .records(&self.places)
+            .iter()
+            .find(|job| u64::from(job.component) == component)
+            .map(|job| u64::from(job.task))
+    }
+}
+
+impl Board for Deadline {
+    ghost use Rattle.deadline.specs.Queues.{Earliest};
+    ghost use Rattle.deadline.specs.DeadlineBoards.{queue, deadline_means, DeadlineAdded, DeadlineStruck};
+    ghost use Rattle.deadline.specs.Deadlines.{deadline_lawful};
+
+    ghost means = { deadline_means };
+
+    ghost added = { DeadlineAdded };
+
+    ghost struck = { DeadlineStruck };
+
+    ghost lawful = { deadline_lawful };
+
+    fn reach(&self) -> u64 {
+        self.sets.reach()
+    }
+
+    fn add(&mut self, component: u64, task: u64, due: u64) -> Result<(), Refusal> {
+        self.sets.add(component, task, due)?;
+        // an accepted component and task are below 8
+        let job = Job {
+            due,
+            component: component as u8,
+            task: task as u8,
+        };
+        self.line.add(&mut self.places, job)
+    }
+
+    fn strike(&mut self, component: u64, task: u64) -> Result<(), Refusal> {
+        let at = self.place_of(component, task);
+        self.sets.strike(component, task)?;
+        self.line.take(&mut self.places, at)?;
+        Ok(())
+    }
+
+    fn pending(&self, component: u64) -> bool {
+        self.sets.pending(component)
+    }
+
+    fn pick(&self, component: u64) -> Option<u64>
+        ensures is { result ≡ (deadline_means self.now).picked component }
+        ensures earliest { Earliest component (queue self.now) result }
+    {
+        self.first_of(component)
+    }
 }

@@ -2,7 +2,5 @@
 #![tactic(auto)]
 
 mod deadline;
-mod deadline_board;
-mod queue;
 
 pub use deadline::Deadline;

@@ -1,1 +1,4 @@
+mod Queued
+mod Room
+mod Tables
 mod Ordered

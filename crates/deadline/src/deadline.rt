@@ -19,8 +19,8 @@ const JOBS: usize = 64;
 /// smaller task.
 ///
 /// The jobs are kept twice: in a line, in the order of their due times, and on a fixed board, where
-/// one look at a byte tells whether a component has a job, or has this one. The line's places are
-/// a table of the board's own, since a board allocates nothing.
+/// one look at a byte tells whether a component has a job, or has this one. The line is lent the
+/// board's own table of places at each call, since neither allocates anything.
 #[derive(Drop)]
 pub struct Deadline {
     sets: Fixed,
@@ -43,6 +43,7 @@ impl Deadline {
     pub fn new() -> Deadline
         ensures { deadline_means result ≡ empty_board 8 }
     {
+        // what stands past the line's jobs is never read
         let unused = Job {
             due: 0,
             component: 0,
@@ -64,22 +65,28 @@ impl Deadline {
         self.sets.set_reach(reach)
     }
 
-    // How many jobs stand in the line before that of the component's task; all where there is none.
+    // The pending jobs, in the order of their due times.
+    fn jobs(&self) -> &[Job]
+        ensures { result.now ≡ queue self.now }
+    {
+        self.line.records(&self.places)
+    }
+
+    // How many jobs stand before that of the component's task; all of them where there is none.
     fn place_of(&self, component: u64, task: u64) -> usize
         ensures { result ≡ place_of component task (queue self.now) }
     {
-        let jobs = self.line.records(&self.places);
+        let jobs = self.jobs();
         jobs.iter()
             .position(|job| u64::from(job.component) == component && u64::from(job.task) == task)
             .unwrap_or(jobs.len())
     }
 
-    // The task of the component's first job in the line.
+    // The task of the component's first job.
     fn first_of(&self, component: u64) -> Option<u64>
         ensures { result ≡ first_of component (queue self.now) }
     {
-        self.line
-            .records(&self.places)
+        self.jobs()
             .iter()
             .find(|job| u64::from(job.component) == component)
             .map(|job| u64::from(job.task))
@@ -105,7 +112,7 @@ impl Board for Deadline {
 
     fn add(&mut self, component: u64, task: u64, due: u64) -> Result<(), Refusal> {
         self.sets.add(component, task, due)?;
-        // an accepted component and task are below 8
+        // an accepted component and task are below 8, so no bit is lost: `try_from` would add a refusal
         let job = Job {
             due,
             component: component as u8,
@@ -115,6 +122,7 @@ impl Board for Deadline {
     }
 
     fn strike(&mut self, component: u64, task: u64) -> Result<(), Refusal> {
+        // found first, while the line agrees with the fixed board
         let at = self.place_of(component, task);
         self.sets.strike(component, task)?;
         self.line.take(&mut self.places, at)?;

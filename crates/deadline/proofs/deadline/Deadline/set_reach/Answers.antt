@@ -1,4 +1,4 @@
-use Rattle.deadline.specs.Deadlines.{reset_same, reset_means}
+use Rattle.deadline.proofs.Tables.{reset_same, reset_means}
 use Rattle.deadline.proofs.deadline.Deadline.set_reach.Goals as goal
 
 pub invariant_of-self-clause-same : goal.invariant_of-self-clause-same

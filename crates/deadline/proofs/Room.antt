@@ -10,7 +10,7 @@ use Rattle.std.proofs.lemmas.Map.Keys.{IsDistinct-push}
 use Rattle.std.proofs.lemmas.Map.Made.{length-le_from_is_member}
 use Rattle.line.specs.declared.records.Job.{Job}
 use Rattle.deadline.specs.Queues.{holds, Distinct, of_one_task}
-use Rattle.deadline.specs.Queued.{job, one_task}
+use Rattle.deadline.proofs.Queued.{job, one_task}
 
 -- every job of the eight tasks of eight components
 abbrev every_job : List Job

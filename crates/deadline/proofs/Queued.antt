@@ -1,25 +1,26 @@
--- Jobs in a list, as the list is searched and as jobs come and go.
-use Rattle.std.specs.Prelude.{◌≡◌, ℕ, suc, ◌+◌, ◌<◌, ◌≤◌, Bool, true, false, cond, not, ◌&&◌, ◌||◌, List, [], ◌∷◌, ◌++◌, length, Some, ◌==◌, refl}
+-- Jobs in a list, as jobs come and go.
+use Rattle.std.specs.Prelude.{◌≡◌, ℕ, suc, ◌+◌, ◌<◌, ◌≤◌, Bool, true, false, cond, not, ◌&&◌, ◌||◌, List, [], ◌∷◌, ◌++◌, length, refl}
 use Rattle.std.proofs.Common.{sym, ap, subst, ◌∙◌, ⊎_elim, arith}
 use Rattle.std.specs.Cmp.{IsEquivalence}
-use Rattle.std.specs.List.{find, remove}
+use Rattle.std.specs.List.{remove}
 use Rattle.std.specs.List.Sorted.{IsPermutation}
-use Rattle.std.specs.Option.{option_map}
 use Rattle.std.proofs.lemmas.List.Folds.{list_any-append, list_any_none}
 use Rattle.std.proofs.lemmas.List.Quantifiers.{all_pairs_remove}
 use Rattle.std.proofs.lemmas.List.Sorted.{IsPermutation-refl, IsPermutation-trans, IsPermutation-cons, IsPermutation-middle, IsPermutation-to_front, list_any-IsPermutation}
 use Rattle.std.proofs.lemmas.Map.Keys.{IsDistinct-tail, IsDistinct-push, IsDistinct-from_apart, IsDistinct-IsPermutation, apart_from_distinct}
-use Rattle.std.proofs.lemmas.Bool.{cases_Bool, cases_lt, and_parts, or_left, eqb-true, eq-eqb}
+use Rattle.std.proofs.lemmas.Map.Steps.{list_any_congr}
+use Rattle.std.proofs.lemmas.Bool.{cases_lt, cond_both}
 use Rattle.std.proofs.lemmas.Bool.Decides.{nat_tests}
 use Rattle.std.proofs.lemmas.Grind.{common_steps}
 use Rattle.line.specs.declared.records.Job.{Job}
 use Rattle.line.specs.Order.{insertion}
-use Rattle.boards.specs.Boards.{same_job, Among}
-use Rattle.deadline.specs.Queues.{is_job, holds, place_of, first_of, of_one_task, Distinct}
+use Rattle.boards.specs.Boards.{same_job}
+use Rattle.deadline.specs.Queues.{is_job, holds, place_of, of_one_task, Distinct}
 
 abbrev pub job : ℕ → ℕ → ℕ → Job
 job e c t = record { due = e; component = c; task = t }
 
+-- being of one component and one task is an equality
 pub one_task : IsEquivalence of_one_task
 one_task = record {
   refl = λ x. grind (arith, nat_tests);
@@ -27,8 +28,7 @@ one_task = record {
   congr = λ x y z e. grind (arith, nat_tests);
 }
 
--- ---- what is found
-
+-- a job that is in the list has a place in it
 pub place_within : (c t : ℕ) (xs : List Job) → holds c t xs ≡ true → place_of c t xs < length xs
 place_within c t [] h = absurd (let z : false ≡ true = h in cc)
 place_within c t (x ∷ xs) h =
@@ -37,14 +37,6 @@ place_within c t (x ∷ xs) h =
       | true ↦ λ _. omega arith
       | false ↦ λ r. omega (arith, more r)
     ] h
-
-pub first_among : (c : ℕ) (xs : List Job) → Among (λ t. holds c t xs) (first_of c xs)
-first_among c [] = λ t. refl
-first_among c (x ∷ xs) =
-    elim (c == x.component) as (λ b. Among (λ t. (b && t == x.task) || holds c t xs) (option_map (λ y. y.task) (cond b (Some x) (find (λ y. c == y.component) xs)))) [
-      | true ↦ or_left _ _ (eq-eqb x.task x.task refl)
-      | false ↦ first_among c xs
-    ]
 
 -- ---- a job comes
 
@@ -73,6 +65,7 @@ module _ (le : Job → Job → Bool) (r : Job) where
 
 -- ---- a job goes
 
+-- a job fewer leaves them apart
 pub distinct_removed : (xs : List Job) (i : ℕ) → Distinct xs → Distinct (remove xs i)
 distinct_removed xs i a =
     ⊎_elim
@@ -80,30 +73,21 @@ distinct_removed xs i a =
     (λ (ge : length xs ≤ i). let all : remove xs i ≡ xs = grind (arith, common_steps) in subst Distinct (sym all) a)
     (cases_lt i (length xs))
 
+-- behind a job there is no other of its task
 none_behind : (x : Job) (xs : List Job) → Distinct (x ∷ xs) → holds x.component x.task xs ≡ false
 none_behind x xs a = list_any_none _ xs (λ k d l. apart_from_distinct of_one_task (x ∷ xs) 0 (suc k) d a (omega arith) (omega arith))
 
 -- without the job in front, where it is the one to go, and else with it
-gone_first : (x : Job) (c t d u : ℕ) (rest : Bool) → is_job x c t ≡ true → (is_job x d u ≡ true → rest ≡ false) → rest ≡ ((is_job x d u || rest) && not (same_job c t d u))
-gone_first x c t d u rest e none =
-    ⊎_elim
-    (λ (h : is_job x d u ≡ true). let empty = none h in grind (arith, nat_tests))
-    (λ (h : is_job x d u ≡ false). grind (arith, nat_tests))
-    (cases_Bool (is_job x d u))
+gone_first : (x : Job) (c t d u : ℕ) (rest : Bool) → not (is_job x c t) ≡ false → (is_job x d u ≡ true → rest ≡ false) → rest ≡ ((is_job x d u || rest) && not (same_job c t d u))
+gone_first x c t d u rest e none = grind (arith, nat_tests, none)
 
-kept_first : (x : Job) (c t d u : ℕ) (rest : Bool) → is_job x c t ≡ false → (is_job x d u || (rest && not (same_job c t d u))) ≡ ((is_job x d u || rest) && not (same_job c t d u))
+kept_first : (x : Job) (c t d u : ℕ) (rest : Bool) → not (is_job x c t) ≡ true → (is_job x d u || (rest && not (same_job c t d u))) ≡ ((is_job x d u || rest) && not (same_job c t d u))
 kept_first x c t d u rest e = grind (arith, nat_tests)
 
 pub holds_removed : (c t d u : ℕ) (xs : List Job) → Distinct xs → holds d u (remove xs (place_of c t xs)) ≡ (holds d u xs && not (same_job c t d u))
 holds_removed c t d u [] a = refl
 holds_removed c t d u (x ∷ xs) a =
     let behind : 1 + place_of c t xs ≡ suc (place_of c t xs) = omega arith in
-    let F : Bool → Type 0 = λ b. holds d u (remove (x ∷ xs) (cond (not b) (1 + place_of c t xs) 0)) ≡ (holds d u (x ∷ xs) && not (same_job c t d u)) in
-    ⊎_elim
-    (λ (e : is_job x c t ≡ true).
-    subst F (sym e) (gone_first x c t d u (holds d u xs) e (λ h.
-    let es = and_parts (d == x.component) (u == x.task) h in
-    ap (λ k. holds k u xs) (eqb-true d x.component es.0) ∙ ap (λ k. holds x.component k xs) (eqb-true u x.task es.1) ∙ none_behind x xs a)))
-    (λ (e : is_job x c t ≡ false).
-    subst F (sym e) (ap (λ n. holds d u (remove (x ∷ xs) n)) behind ∙ ap (λ b. is_job x d u || b) (holds_removed c t d u xs (IsDistinct-tail of_one_task x xs a)) ∙ kept_first x c t d u (holds d u xs) e))
-    (cases_Bool (is_job x c t))
+    cond_both (not (is_job x c t)) (1 + place_of c t xs) 0 (λ n. holds d u (remove (x ∷ xs) n) ≡ (holds d u (x ∷ xs) && not (same_job c t d u)))
+    (λ e. ap (λ n. holds d u (remove (x ∷ xs) n)) behind ∙ ap (λ b. is_job x d u || b) (holds_removed c t d u xs (IsDistinct-tail of_one_task x xs a)) ∙ kept_first x c t d u (holds d u xs) e)
+    (λ e. gone_first x c t d u (holds d u xs) e (λ h. list_any_congr one_task (job 0 d u) x xs h ∙ none_behind x xs a))

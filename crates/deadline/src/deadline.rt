@@ -43,7 +43,7 @@ impl Deadline {
     pub fn new() -> Deadline
         ensures { deadline_means result ≡ empty_board 8 }
     {
-        // what stands past the line's jobs is never read
+        // fills places that none reads; a `Default` of `Job` would be a job that means nothing
         let unused = Job {
             due: 0,
             component: 0,
@@ -112,7 +112,7 @@ impl Board for Deadline {
 
     fn add(&mut self, component: u64, task: u64, due: u64) -> Result<(), Refusal> {
         self.sets.add(component, task, due)?;
-        // an accepted component and task are below 8, so no bit is lost: `try_from` would add a refusal
+        // both are below 8 once accepted, so no bit is lost; `try_from` would add a refusal
         let job = Job {
             due,
             component: component as u8,

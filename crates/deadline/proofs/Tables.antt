@@ -48,8 +48,8 @@ module _ (b : Deadline) (long : length b.places ≡ 64) (sets : Fixed) (l : Line
   size k n h e = omega (arith, length-take k.held n)
 
   -- a job came, which was not pending
-  pub grown : (x : Job) (r : Result (Unit {0}) Refusal) → None ≡ add_refusal (fixed_means b.sets) x.component x.task → Gains (fixed_means b.sets) (fixed_means sets) x.component x.task → result_err r ≡ full_refusal (queue b) b.places → OnOk r (Added job_le x b.line b.places l m) → Sound sets l m
-  grown x r accepted g refusal added =
+  pub grown : (x : Job) (r : Result (Unit {0}) Refusal) → result_err r ≡ full_refusal (queue b) b.places → OnOk r (Added job_le x b.line b.places l m) → None ≡ add_refusal (fixed_means b.sets) x.component x.task → Gains (fixed_means b.sets) (fixed_means sets) x.component x.task → Sound sets l m
+  grown x r refusal added accepted g =
       let new = add_accepted (fixed_means b.sets) x.component x.task accepted in
       let a = (what_made _ r (refusal ∙ sym (place_left b long _ _ new)) added).1 in
       record {
@@ -60,8 +60,8 @@ module _ (b : Deadline) (long : length b.places ≡ 64) (sets : Fixed) (l : Line
       }
 
   -- a pending job went
-  pub shrunk : (c t at : ℕ) → at ≡ place_of c t (queue b) → (r : Result Job Refusal) → None ≡ strike_refusal (fixed_means b.sets) c t → Loses (fixed_means b.sets) (fixed_means sets) c t → result_err r ≡ position_refusal (queue b) at → IfOk r (λ x. Taken job_le at x b.line b.places l m) → Sound sets l m
-  shrunk c t at is r accepted g refusal taken =
+  pub shrunk : (c t at : ℕ) (r : Result Job Refusal) → result_err r ≡ position_refusal (queue b) at → IfOk r (λ x. Taken job_le at x b.line b.places l m) → at ≡ place_of c t (queue b) → None ≡ strike_refusal (fixed_means b.sets) c t → Loses (fixed_means b.sets) (fixed_means sets) c t → Sound sets l m
+  shrunk c t at r refusal taken is accepted g =
       let old = strike_accepted (fixed_means b.sets) c t accepted in
       let a = (what_made _ r (refusal ∙ sym (position_found b long c t at is old)) taken).1 in
       let listed : records_of l m ≡ remove (queue b) (place_of c t (queue b)) = a.listed ∙ ap (remove (queue b)) is in

@@ -49,8 +49,9 @@ impl Deadline {
             component: 0,
             task: 0,
         };
+        let sets = Fixed::new();
         Deadline {
-            sets: Fixed::new(),
+            sets,
             line: Line::new(),
             places: [unused; JOBS],
         }

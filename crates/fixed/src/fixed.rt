@@ -10,7 +10,7 @@ use refusals::Refusal;
 /// keeps one byte for each component.
 #[derive(Drop)]
 pub struct Fixed {
-    // a table of fixed size with a length beside it, since a board allocates nothing
+    // no length of the table: it has a place for each of eight components, whatever the reach is
     reach: u64,
     sets: [TaskSet; 8],
     ghost eight: { reach ≤ 8 },

@@ -2,4 +2,4 @@ use Rattle.deadline.proofs.Tables.{nothing_held}
 use Rattle.deadline.proofs.deadline.Deadline.new.Goals as goal
 
 pub invariant_of-result : goal.invariant_of-result
-invariant_of-result c = nothing_held c.new.result c.new-2.result _ c.new.ensures c.new-2.ensures
+invariant_of-result c = nothing_held c.new-sets.result c.new.result _ c.new-sets.ensures c.new.ensures

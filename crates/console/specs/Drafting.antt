@@ -1,6 +1,7 @@
 -- What each command does to what is drafted, and its reply.
 use Rattle.std.specs.Prelude.{ℕ, Bool, cond, not, ◌&&◌, Some, None, Ok, Err, Option, Result}
 use Rattle.std.specs.Option.{option_map}
+use Rattle.refusals.specs.Causes.{outside}
 use Rattle.refusals.specs.declared.Refusal.{Refusal}
 use Rattle.refusals.specs.declared.Refusal.TheVariants.{WrongPhase, ReachRange}
 use Rattle.bracket.specs.declared.commands.Side.{Side}
@@ -8,7 +9,7 @@ use Rattle.bracket.specs.declared.commands.BoardText.{BoardText}
 use Rattle.bracket.specs.declared.commands.BoardText.TheVariants.{Single, Join}
 use Rattle.bracket.specs.declared.commands.Command.{Command}
 use Rattle.bracket.specs.declared.commands.Command.TheVariants.{Board, Component, Task, Use, Release, Done, Lock, Unlock, Tick, Runner, Budget, Ceiling, Holder, Bound, Assured}
-use Rattle.controller.specs.Draft.{outside, component_answer, component_declared, task_answer, task_declared, use_answer, use_declared}
+use Rattle.controller.specs.Draft.{component_answer, component_declared, task_answer, task_declared, use_answer, use_declared}
 use Rattle.controller.specs.Tables.{Tables, empty_tables}
 use Rattle.controller.specs.View.{drafted, board_of}
 use Rattle.controller.specs.declared.controller.Controller.{Controller}

@@ -1,7 +1,11 @@
 -- What a plan keeps true, after a component is put at a place of its table.
-use Rattle.std.proofs.Common.{◌≡◌, ℕ, zero, suc, ◌+◌, ◌<◌, ◌≤◌, ◌⊎◌, List, [], ◌∷◌, length, get_or, set, replicate, Some, None, Option, sym, refl, ap, ◌∙◌, subst, inl, inr, ⊎_elim, arith}
+use Rattle.std.proofs.Common.{◌≡◌, ℕ, zero, suc, ◌+◌, ◌<◌, ◌≤◌, ◌⊎◌, List, [], ◌∷◌, length, get_or, set, take, eqb, false, replicate, Some, None, Option, sym, refl, ap, ◌∙◌, subst, inl, inr, ⊎_elim, arith}
 use Rattle.std.proofs.lemmas.List.{get_or-set_same, get_or-set_other}
 use Rattle.std.proofs.lemmas.Bool.{cases_eq}
+use Rattle.std.proofs.lemmas.Bool.Decides.{nat_tests}
+use Rattle.std.proofs.lemmas.Grind.{common_steps}
+use Rattle.std.proofs.lemmas.List.Folds.{list_any_at}
+use Rattle.std.specs.List.{list_any}
 use Rattle.controller.specs.declared.component.Component.{Component}
 use Rattle.controller.specs.declared.plan.Plan.{Plan}
 use Rattle.controller.specs.Rules.{fresh, vacant, absent, with_task, with_use, Within, InRange, Ranges, Distinct, Deadlines, Accesses, Affordable}
@@ -56,6 +60,10 @@ sound_none = record {
 }
 
 -- ---- one component more
+
+-- a level that no declared component has is not that of any of them
+pub not_taken : (cs : List Component) (count l : ℕ) → count ≤ length cs → list_any (λ c. eqb c.level l) (take count cs) ≡ false → (i : ℕ) → i < count → (get_or cs i absent).level ≡ l → ⊥
+not_taken cs count l m free i h e = grind (arith, common_steps, nat_tests, list_any_at (λ c. eqb c.level l) (take count cs) i absent)
 
 ranges_more : (cs : List Component) (count l b p : ℕ) → count < length cs → Within 1 200 l → Within 1 1000000 p → Within 1 p b → Ranges cs count → Ranges (set cs count (fresh l b p)) (count + 1)
 ranges_more cs count l b p k level period budget h i m =

@@ -1,38 +1,16 @@
 -- The calls that draft a plan: for which cause each is refused, what it answers and what it declares.
-use Rattle.std.specs.Prelude.{ℕ, zero, suc, ◌+◌, Bool, false, cond, ◌||◌, List, [], ◌∷◌, ◌++◌, is_some, Some, None, Ok, Err, Option, Result, nat_eq, nat_le, nat_lt, slice_index_or, slice_set}
+use Rattle.std.specs.Prelude.{ℕ, ◌+◌, Bool, List, [], ◌∷◌, ◌++◌, is_some, None, Option, Result, nat_eq, nat_le, nat_lt, slice_index_or, slice_set}
+use Rattle.std.specs.List.{list_any}
+use Rattle.refusals.specs.Causes.{first_cause, answered, unless_refused, outside}
 use Rattle.refusals.specs.declared.Refusal.{Refusal}
 use Rattle.refusals.specs.declared.Refusal.TheVariants.{ComponentLimit, LevelRange, LevelTaken, PeriodRange, BudgetRange, UnknownComponent, TaskLimit, DeadlineRange, ResourceRange, UseTwice, AccessRange}
 use Rattle.controller.specs.Rules.{fresh, with_task, with_use}
 use Rattle.controller.specs.declared.component.Component.{Component}
 use Rattle.controller.specs.Tables.{Tables, component_at, declared}
 
--- the first cause whose test holds
-abbrev pub first : List (Bool × Refusal) → Option Refusal
-first [] = None
-first (c ∷ rest) = cond c.0 (Some c.1) (first rest)
-
--- the answer of a call: the cause of its refusal, or else its value
-abbrev pub answered : {X : Type 0} → Option Refusal → X → Result X Refusal
-answered None value = Ok value
-answered (Some cause) value = Err cause
-
--- what a call leaves: all as it was if it is refused, or else the new state
-abbrev pub unless_refused : {X : Type 0} → Option Refusal → X → X → X
-unless_refused None new old = new
-unless_refused (Some cause) new old = old
-
--- a number is below the one or above the other
-abbrev pub outside : ℕ → ℕ → ℕ → Bool
-outside low high n = nat_lt n low || nat_lt high n
-
--- a test holds of one of the first so many numbers
-abbrev pub some : (ℕ → Bool) → ℕ → Bool
-some test zero = false
-some test (suc n) = test n || some test n
-
 -- a declared component has the level
 abbrev pub level_taken : Tables → ℕ → Bool
-level_taken t level = some (λ i. nat_eq (component_at t i).level level) t.count
+level_taken t level = list_any (λ c. nat_eq c.level level) (declared t)
 
 -- the table with another component at the number
 abbrev pub replaced : Tables → ℕ → Component → Tables
@@ -43,7 +21,7 @@ replaced t i c = record { components = slice_set t.components i c; count = t.cou
 -- the first cause for which a component is refused
 abbrev pub component_refusal : Tables → ℕ → ℕ → ℕ → Option Refusal
 component_refusal t level budget period =
-    first
+    first_cause
     (
     (nat_le 8 t.count, ComponentLimit)
     ∷ (outside 1 200 level, LevelRange)
@@ -77,7 +55,7 @@ components_after t level budget period =
 -- the first cause for which a task is refused
 abbrev pub task_refusal : Tables → ℕ → ℕ → Option Refusal
 task_refusal t component deadline =
-    first
+    first_cause
     (
     (nat_le t.count component, UnknownComponent)
     ∷ (nat_le 8 (component_at t component).tasks, TaskLimit)
@@ -99,7 +77,7 @@ task_declared t component deadline =
 -- the first cause for which a use is refused
 abbrev pub use_refusal : Tables → ℕ → ℕ → ℕ → Option Refusal
 use_refusal t component resource access =
-    first
+    first_cause
     (
     (nat_le t.count component, UnknownComponent)
     ∷ (nat_lt 15 resource, ResourceRange)

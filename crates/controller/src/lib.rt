@@ -4,7 +4,6 @@
 mod component;
 mod controller;
 mod counts;
-mod draft;
 mod plan;
 
 pub use controller::Controller;

@@ -7,7 +7,7 @@ use Rattle.controller.proofs.plan.Plan.declare_use.Goals as goal
 pub invariant_of-self : goal.invariant_of-self
 invariant_of-self c =
     let was = c.args.self.now in
-    let fits = use_fits (tables was) c.args.component c.args.resource c.args.access c.in-None.ensures in
+    let fits = use_fits (tables was) c.args.component c.args.resource c.args.access c.in_ok-check_use.ensures in
     let known = fits.known in
     let few = was.few in
     let long : length was.components ≡ 8 = search rules in

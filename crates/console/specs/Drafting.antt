@@ -1,5 +1,5 @@
 -- What each command does to what is drafted, and its reply.
-use Rattle.std.specs.Prelude.{ℕ, Bool, cond, not, ◌&&◌, Some, None, Ok, Err, Option, Result}
+use Rattle.std.specs.Prelude.{ℕ, Bool, cond, not, ◌&&◌, List, [], Some, None, Ok, Err, Option, Result}
 use Rattle.std.specs.Option.{option_map}
 use Rattle.refusals.specs.Causes.{outside}
 use Rattle.refusals.specs.declared.Refusal.{Refusal}
@@ -10,19 +10,19 @@ use Rattle.bracket.specs.declared.commands.BoardText.TheVariants.{Single, Join}
 use Rattle.bracket.specs.declared.commands.Command.{Command}
 use Rattle.bracket.specs.declared.commands.Command.TheVariants.{Board, Component, Task, Use, Release, Done, Lock, Unlock, Tick, Runner, Budget, Ceiling, Holder, Bound, Assured}
 use Rattle.controller.specs.Draft.{component_answer, component_declared, task_answer, task_declared, use_answer, use_declared}
-use Rattle.controller.specs.Tables.{Tables, empty_tables}
 use Rattle.controller.specs.View.{drafted, board_of}
+use Rattle.controller.specs.declared.component.Component as plan
 use Rattle.controller.specs.declared.controller.Controller.{Controller}
 use Rattle.console.specs.declared.answers.Reply.{Reply}
 use Rattle.console.specs.declared.answers.Reply.TheVariants as reply
 
--- the board as the text describes it, and the plan
+-- the board as the text describes it, and the components of the plan
 pub record Draft : Type 0 where
   pub board : BoardText
-  pub tables : Tables
+  pub components : List plan.Component
 
 abbrev pub draft_in : Controller BoardText → Draft
-draft_in controller = record { board = board_of controller; tables = drafted controller }
+draft_in controller = record { board = board_of controller; components = drafted controller }
 
 -- what is drafted: nothing before a board form is accepted
 abbrev pub draft_of : Option (Controller BoardText) → Option Draft
@@ -47,7 +47,7 @@ board_reaches (Join first second) = reaches first && reaches second
 
 -- a board form is accepted where each reach in it is; any other form comes too early
 abbrev pub before_board : Command → Outcome
-before_board (Board board) = cond (board_reaches board) (record { reply = Ok reply.Done; draft = Some (record { board = board; tables = empty_tables }) }) (refused_with ReachRange None)
+before_board (Board board) = cond (board_reaches board) (record { reply = Ok reply.Done; draft = Some (record { board = board; components = [] }) }) (refused_with ReachRange None)
 before_board (Component level budget period) = refused_with WrongPhase None
 before_board (Task component deadline) = refused_with WrongPhase None
 before_board (Use component resource access) = refused_with WrongPhase None
@@ -74,17 +74,17 @@ plain (Ok x) = Ok reply.Done
 plain (Err cause) = Err cause
 
 -- the same board with another plan
-abbrev pub planned : Draft → Tables → Option Draft
-planned draft tables = Some (record { board = draft.board; tables = tables })
+abbrev pub planned : Draft → List plan.Component → Option Draft
+planned draft components = Some (record { board = draft.board; components = components })
 
 -- declarations go to the plan; a second board, and all that asks for a running controller, is refused
 abbrev pub while_drafting : Draft → Command → Outcome
 while_drafting draft (Board board) = refused_with WrongPhase (Some draft)
 while_drafting draft (Component level budget period) =
-    record { reply = numbered (component_answer draft.tables level budget period); draft = planned draft (component_declared draft.tables level budget period) }
-while_drafting draft (Task component deadline) = record { reply = numbered (task_answer draft.tables component deadline); draft = planned draft (task_declared draft.tables component deadline) }
+    record { reply = numbered (component_answer draft.components level budget period); draft = planned draft (component_declared draft.components level budget period) }
+while_drafting draft (Task component deadline) = record { reply = numbered (task_answer draft.components component deadline); draft = planned draft (task_declared draft.components component deadline) }
 while_drafting draft (Use component resource access) =
-    record { reply = plain (use_answer draft.tables component resource access); draft = planned draft (use_declared draft.tables component resource access) }
+    record { reply = plain (use_answer draft.components component resource access); draft = planned draft (use_declared draft.components component resource access) }
 while_drafting draft (Release component task) = refused_with WrongPhase (Some draft)
 while_drafting draft (Done component task) = refused_with WrongPhase (Some draft)
 while_drafting draft (Lock component task resource) = refused_with WrongPhase (Some draft)

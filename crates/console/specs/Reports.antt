@@ -1,15 +1,15 @@
 -- What is reported of an input.
 use Rattle.std.specs.Prelude.{ℕ, List, [], ◌∷◌, ◌++◌, Some, None, codes, decimal, Option}
 use Rattle.controller.specs.declared.counts.Counts.{Counts}
-use Rattle.controller.specs.Tables.{empty_tables, counts_of}
+use Rattle.controller.specs.Components.{counts_of}
 use Rattle.console.specs.declared.report.Report.{Report}
 use Rattle.console.specs.Answering.{State}
 use Rattle.console.specs.Drafting.{Draft}
 
 -- how much is declared: nothing where no board form was accepted
 abbrev pub declared_in : Option Draft → Counts
-declared_in None = counts_of empty_tables
-declared_in (Some draft) = counts_of draft.tables
+declared_in None = counts_of []
+declared_in (Some draft) = counts_of draft.components
 
 abbrev pub report_of : State → Report
 report_of state = record { tally = state.tally; counts = declared_in state.draft }

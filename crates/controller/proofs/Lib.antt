@@ -1,3 +1,1 @@
-mod Causes
-mod Counting
-mod Places
+pub mod Kept

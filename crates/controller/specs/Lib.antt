@@ -1,4 +1,4 @@
 pub mod Rules
-pub mod Tables
+pub mod Components
 pub mod Draft
 pub mod View

@@ -1,16 +1,17 @@
 -- What the values of the code declare.
-use Rattle.controller.specs.Tables.{Tables}
+use Rattle.std.specs.Prelude.{List}
+use Rattle.controller.specs.declared.component.Component.{Component}
 use Rattle.controller.specs.declared.plan.Plan.{Plan}
 use Rattle.controller.specs.declared.controller.Controller.{Controller}
 
--- the tables of a plan
-abbrev pub tables : Plan → Tables
-tables p = record { components = p.components; count = p.count }
+-- the components that a plan declares
+abbrev pub declared : Plan → List Component
+declared plan = plan.components.items
 
--- the tables of the plan that a controller drafts
-abbrev pub drafted : {B : Type 0} → Controller B → Tables
-drafted c = tables c.plan
+-- the components of the plan that a controller drafts
+abbrev pub drafted : {B : Type 0} → Controller B → List Component
+drafted controller = declared controller.plan
 
 -- the board that a controller is made around
 abbrev pub board_of : {B : Type 0} → Controller B → B
-board_of c = c.board
+board_of controller = controller.board

@@ -1,6 +1,9 @@
 //! A component of a plan.
-ghost use Rattle.std.specs.Prelude.{◌≡◌, ◌<◌, ◌≤◌, slice_index};
+ghost use Rattle.std.specs.Prelude.{◌≡◌, ◌<◌, ◌≤◌};
+ghost use Rattle.arrayvec.specs.ArrayVec.{array_vec_len};
 ghost use Rattle.controller.specs.Rules.{fresh, with_task, with_use, uses_of};
+
+use arrayvec::ArrayVec;
 
 /// How many tasks a component may have.
 pub(crate) const TASKS: usize = 8;
@@ -8,15 +11,15 @@ pub(crate) const TASKS: usize = 8;
 /// How many resources there are.
 pub(crate) const RESOURCES: usize = 16;
 
-/// A component: a budget in each period, and the tasks and resources that share it.
-#[derive(Clone, Copy)]
+/// A component: a budget in each period, and the tasks and resources that share it. The default
+/// stands at the places of a plan that no component takes.
+#[derive(Default, Drop)]
 pub struct Component {
     pub(crate) level: u8,
     pub(crate) budget: u32,
     pub(crate) period: u32,
-    // relative deadlines of the tasks declared so far, the first `tasks` of them
-    pub(crate) deadlines: [u32; TASKS],
-    pub(crate) tasks: usize,
+    // relative deadlines of the tasks declared so far
+    pub(crate) deadlines: ArrayVec<u32, TASKS>,
     // the longest access that the component declares for each resource
     pub(crate) accesses: [Option<u32>; RESOURCES],
 }
@@ -30,20 +33,17 @@ impl Component {
             level,
             budget,
             period,
-            deadlines: [0; TASKS],
-            tasks: 0,
+            deadlines: ArrayVec::new(),
             accesses: [None; RESOURCES],
         }
     }
 
     /// Declares one more task.
     pub(crate) fn add_task(&mut self, deadline: u32)
-        requires { self.old.tasks < 8 }
-        ensures after { self.new ≡ with_task self.old deadline }
-        ensures stored { slice_index self.new.deadlines self.old.tasks ≡ deadline }
+        requires { array_vec_len self.old.deadlines < 8 }
+        ensures { self.new ≡ with_task self.old deadline }
     {
-        self.deadlines[self.tasks] = deadline;
-        self.tasks += 1;
+        self.deadlines.push(deadline);
     }
 
     /// Declares a use of the resource.
@@ -55,16 +55,13 @@ impl Component {
     }
 
     /// How many uses the component declares.
-    pub(crate) fn uses(&self) -> u64
+    pub(crate) fn uses(&self) -> usize
         ensures number { result ≡ uses_of self.now }
         ensures few { result ≤ 16 }
     {
-        let mut uses = 0;
-        for access in &self.accesses {
-            if access.is_some() {
-                uses += 1;
-            }
-        }
-        uses
+        self.accesses
+            .iter()
+            .filter(|access| access.is_some())
+            .count()
     }
 }

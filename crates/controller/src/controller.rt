@@ -1,7 +1,7 @@
 //! The controller that callers see.
-ghost use Rattle.std.specs.Prelude.{◌≡◌};
-ghost use Rattle.controller.specs.Tables.{empty_tables, declared, counts_of};
-ghost use Rattle.controller.specs.Draft.{component_answer, component_declared, components_after, task_answer, task_declared, use_answer, use_declared};
+ghost use Rattle.std.specs.Prelude.{◌≡◌, []};
+ghost use Rattle.controller.specs.Components.{counts_of};
+ghost use Rattle.controller.specs.Draft.{component_answer, component_declared, task_answer, task_declared, use_answer, use_declared};
 ghost use Rattle.controller.specs.View.{drafted};
 
 use crate::counts::Counts;
@@ -18,7 +18,7 @@ pub struct Controller<B> {
 impl<B> Controller<B> {
     /// A controller that drafts a plan, of which nothing is declared yet.
     pub fn new(board: B) -> Controller<B>
-        ensures plan { drafted result ≡ empty_tables }
+        ensures plan { drafted result ≡ [] }
         ensures board { result.board ≡ board }
     {
         Controller {
@@ -35,7 +35,6 @@ impl<B> Controller<B> {
     pub fn component(&mut self, level: u64, budget: u64, period: u64) -> Result<u64, Refusal>
         ensures answer { result ≡ component_answer (drafted self.old) level budget period }
         ensures plan { drafted self.new ≡ component_declared (drafted self.old) level budget period }
-        ensures listed { declared (drafted self.new) ≡ components_after (drafted self.old) level budget period }
         ensures board { self.new.board ≡ self.old.board }
     {
         self.plan.component(level, budget, period)

@@ -1,9 +1,10 @@
 //! The plan that is drafted, declarations into it, and the causes for which one is refused.
-ghost use Rattle.std.specs.Prelude.{◌≡◌, ◌≤◌, Ok, Err, if◌then◌else◌};
-ghost use Rattle.controller.specs.Rules.{Ranges, Distinct, Deadlines, Accesses, Affordable};
+ghost use Rattle.std.specs.Prelude.{◌≡◌, ◌<◌, ◌≤◌, [], length, Ok, Err, IfOk, IfErr, if◌then◌else◌};
+ghost use Rattle.controller.specs.Rules.{Sound};
 
-use crate::component::{Component, RESOURCES, TASKS};
+use crate::component::{Component, RESOURCES};
 use crate::counts::Counts;
+use arrayvec::ArrayVec;
 use refusals::Refusal;
 
 /// How many components a plan may have.
@@ -22,65 +23,64 @@ fn ensure(holds: bool, cause: Refusal) -> Result<(), Refusal>
     if holds { Ok(()) } else { Err(cause) }
 }
 
-/// The components declared so far, the first `count` of the table. A component's number is its
-/// place.
+/// The components declared so far. A component's number is its place.
 #[derive(Drop)]
 pub struct Plan {
-    pub(crate) components: [Component; COMPONENTS],
-    pub(crate) count: usize,
-    ghost few: { count ≤ 8 },
-    ghost ranges: { Ranges components count },
-    ghost distinct: { Distinct components count },
-    ghost deadlines: { Deadlines components },
-    ghost accesses: { Accesses components },
-    ghost affordable: { Affordable components },
+    components: ArrayVec<Component, COMPONENTS>,
+    ghost sound: { Sound components.items },
 }
 
 impl Plan {
     ghost use Rattle.refusals.specs.Causes.{answered};
-    ghost use Rattle.controller.specs.Tables.{empty_tables, declared, counts_of};
-    ghost use Rattle.controller.specs.Draft.{level_taken, component_refusal, task_refusal, use_refusal, component_answer, component_declared, components_after, task_answer, task_declared, use_answer, use_declared};
-    ghost use Rattle.controller.specs.View.{tables};
+    ghost use Rattle.controller.specs.Components.{component_at, counts_of};
+    ghost use Rattle.controller.specs.Draft.{level_taken, component_refusal, task_refusal, use_refusal, component_answer, component_declared, task_answer, task_declared, use_answer, use_declared};
+    ghost use Rattle.controller.specs.View.{declared};
 
     /// A plan that declares nothing.
     pub(crate) fn new() -> Plan
-        ensures { tables result ≡ empty_tables }
+        ensures { declared result ≡ [] }
     {
         Plan {
-            components: [Component::new(0, 0, 0); COMPONENTS],
-            count: 0,
+            components: ArrayVec::new(),
         }
     }
 
     /// Whether a declared component has the level.
     fn level_taken(&self, level: u64) -> bool
-        ensures { result ≡ level_taken (tables self.now) level }
+        ensures { result ≡ level_taken (declared self.now) level }
     {
-        self.components[..self.count]
+        self.components
             .iter()
             .any(|component| u64::from(component.level) == level)
     }
 
     /// Answers the first cause, if any, for which a component is refused.
     fn check_component(&self, level: u64, budget: u64, period: u64) -> Result<(), Refusal>
-        ensures { result ≡ answered (component_refusal (tables self.now) level budget period) tt }
+        ensures { result ≡ answered (component_refusal (declared self.now) level budget period) tt }
     {
-        ensure(self.count < COMPONENTS, Refusal::ComponentLimit)?;
+        ensure(!self.components.is_full(), Refusal::ComponentLimit)?;
         ensure((1..=HIGHEST_LEVEL).contains(&level), Refusal::LevelRange)?;
         ensure(!self.level_taken(level), Refusal::LevelTaken)?;
         ensure((1..=LONGEST_PERIOD).contains(&period), Refusal::PeriodRange)?;
         ensure((1..=period).contains(&budget), Refusal::BudgetRange)
     }
 
+    /// The component with the number, where it is declared.
+    fn declared(&self, component: u64) -> Result<&Component, Refusal>
+        ensures known { IfOk result (λ c. (component < length (declared self.now)) × (c.now ≡ component_at (declared self.now) component)) }
+        ensures unknown { IfErr result (λ cause. (cause ≡ Refusal.UnknownComponent) × (length (declared self.now) ≤ component)) }
+    {
+        self.components
+            .get(component as usize)
+            .ok_or(Refusal::UnknownComponent)
+    }
+
     /// Answers the first cause, if any, for which a task is refused.
     fn check_task(&self, component: u64, deadline: u64) -> Result<(), Refusal>
-        ensures { result ≡ answered (task_refusal (tables self.now) component deadline) tt }
+        ensures { result ≡ answered (task_refusal (declared self.now) component deadline) tt }
     {
-        ensure(component < self.count as u64, Refusal::UnknownComponent)?;
-        ensure(
-            self.components[component as usize].tasks < TASKS,
-            Refusal::TaskLimit,
-        )?;
+        let tasked = self.declared(component)?;
+        ensure(!tasked.deadlines.is_full(), Refusal::TaskLimit)?;
         ensure(
             (1..=LONGEST_DEADLINE).contains(&deadline),
             Refusal::DeadlineRange,
@@ -89,43 +89,40 @@ impl Plan {
 
     /// Answers the first cause, if any, for which a use is refused.
     fn check_use(&self, component: u64, resource: u64, access: u64) -> Result<(), Refusal>
-        ensures { result ≡ answered (use_refusal (tables self.now) component resource access) tt }
+        ensures { result ≡ answered (use_refusal (declared self.now) component resource access) tt }
     {
-        ensure(component < self.count as u64, Refusal::UnknownComponent)?;
-        ensure(resource < RESOURCES as u64, Refusal::ResourceRange)?;
-        let user = &self.components[component as usize];
-        ensure(
-            user.accesses[resource as usize].is_none(),
-            Refusal::UseTwice,
-        )?;
-        ensure(
-            (1..=u64::from(user.budget)).contains(&access),
-            Refusal::AccessRange,
-        )
+        let user = self.declared(component)?;
+        let earlier = user
+            .accesses
+            .get(resource as usize)
+            .ok_or(Refusal::ResourceRange)?;
+        ensure(earlier.is_none(), Refusal::UseTwice)?;
+        let longest = u64::from(user.budget);
+        ensure((1..=longest).contains(&access), Refusal::AccessRange)
     }
 
     /// Declares a component, and answers its number.
     pub(crate) fn component(&mut self, level: u64, budget: u64, period: u64) -> Result<u64, Refusal>
-        ensures answer { result ≡ component_answer (tables self.old) level budget period }
-        ensures after { tables self.new ≡ component_declared (tables self.old) level budget period }
-        ensures listed { declared (tables self.new) ≡ components_after (tables self.old) level budget period }
+        ensures answer { result ≡ component_answer (declared self.old) level budget period }
+        ensures after { declared self.new ≡ component_declared (declared self.old) level budget period }
     {
         self.check_component(level, budget, period)?;
-        let number = self.count;
-        self.components[number] = Component::new(level as u8, budget as u32, period as u32);
-        self.count += 1;
+        // each number was checked against its limit, so that no cast loses a bit of it
+        let number = self.components.len();
+        self.components
+            .push(Component::new(level as u8, budget as u32, period as u32));
         Ok(number as u64)
     }
 
     /// Declares a task of a component, and answers its number there.
     pub(crate) fn task(&mut self, component: u64, deadline: u64) -> Result<u64, Refusal>
-        ensures answer { result ≡ task_answer (tables self.old) component deadline }
-        ensures after { tables self.new ≡ task_declared (tables self.old) component deadline }
+        ensures answer { result ≡ task_answer (declared self.old) component deadline }
+        ensures after { declared self.new ≡ task_declared (declared self.old) component deadline }
     {
         self.check_task(component, deadline)?;
-        let place = component as usize;
-        let number = self.components[place].tasks;
-        self.components[place].add_task(deadline as u32);
+        let tasked = &mut self.components[component as usize];
+        let number = tasked.deadlines.len();
+        tasked.add_task(deadline as u32);
         Ok(number as u64)
     }
 
@@ -136,8 +133,8 @@ impl Plan {
         resource: u64,
         access: u64,
     ) -> Result<(), Refusal>
-        ensures answer { result ≡ use_answer (tables self.old) component resource access }
-        ensures after { tables self.new ≡ use_declared (tables self.old) component resource access }
+        ensures answer { result ≡ use_answer (declared self.old) component resource access }
+        ensures after { declared self.new ≡ use_declared (declared self.old) component resource access }
     {
         self.check_use(component, resource, access)?;
         let user = component as usize;
@@ -147,18 +144,20 @@ impl Plan {
 
     /// How much is declared.
     pub(crate) fn counts(&self) -> Counts
-        ensures { result ≡ counts_of (tables self.now) }
+        ensures { result ≡ counts_of (declared self.now) }
     {
-        let mut tasks = 0;
-        let mut uses = 0;
-        for i in 0..self.count {
-            tasks += self.components[i].tasks as u64;
-            uses += self.components[i].uses();
-        }
         Counts {
-            components: self.count as u64,
-            tasks,
-            uses,
+            components: self.components.len() as u64,
+            tasks: self
+                .components
+                .iter()
+                .map(|component| component.deadlines.len() as u64)
+                .sum(),
+            uses: self
+                .components
+                .iter()
+                .map(|component| component.uses() as u64)
+                .sum(),
         }
     }
 }

@@ -66,7 +66,7 @@ impl Plan {
     }
 
     /// The component with the number, where it is declared.
-    fn declared(&self, component: u64) -> Result<&Component, Refusal>
+    fn component_at(&self, component: u64) -> Result<&Component, Refusal>
         ensures known { IfOk result (λ c. (component < length (declared self.now)) × (c.now ≡ component_at (declared self.now) component)) }
         ensures unknown { IfErr result (λ cause. (cause ≡ Refusal.UnknownComponent) × (length (declared self.now) ≤ component)) }
     {
@@ -79,7 +79,7 @@ impl Plan {
     fn check_task(&self, component: u64, deadline: u64) -> Result<(), Refusal>
         ensures { result ≡ answered (task_refusal (declared self.now) component deadline) tt }
     {
-        let tasked = self.declared(component)?;
+        let tasked = self.component_at(component)?;
         ensure(!tasked.deadlines.is_full(), Refusal::TaskLimit)?;
         ensure(
             (1..=LONGEST_DEADLINE).contains(&deadline),
@@ -91,7 +91,7 @@ impl Plan {
     fn check_use(&self, component: u64, resource: u64, access: u64) -> Result<(), Refusal>
         ensures { result ≡ answered (use_refusal (declared self.now) component resource access) tt }
     {
-        let user = self.declared(component)?;
+        let user = self.component_at(component)?;
         let earlier = user
             .accesses
             .get(resource as usize)

@@ -1,5 +1,5 @@
 -- What a plan keeps true, after an accepted call adds a component to it or changes one.
-use Rattle.std.proofs.Common.{◌≡◌, ℕ, ◌<◌, ◌≤◌, false, eqb, List, [], ◌∷◌, ◌++◌, length, get_or, set, Some, Ok, Option, Result, refl, sym, ap, subst, ◌∙◌, length-set, arith}
+use Rattle.std.proofs.Common.{◌≡◌, ℕ, ◌<◌, ◌≤◌, false, eqb, List, [], ◌∷◌, ◌++◌, length, get_or, set, Some, None, Ok, Err, Option, Result, refl, sym, ap, subst, ◌∙◌, length-set, arith}
 use Rattle.std.specs.List.{All, list_any}
 use Rattle.std.specs.Option.{ForSome}
 use Rattle.std.proofs.lemmas.List.Elements.{All-push, All-set, All-replicate}
@@ -10,7 +10,7 @@ use Rattle.std.proofs.lemmas.Grind.{common_steps, elements}
 use Rattle.arrayvec.specs.ArrayVec.{ArrayVec, with_items}
 use Rattle.arrayvec.proofs.ArrayVecLemmas.{items-with_items}
 use Rattle.refusals.specs.declared.Refusal.{Refusal}
-use Rattle.refusals.specs.Causes.{answered}
+use Rattle.refusals.specs.Causes.{answered, unless_refused}
 use Rattle.controller.specs.declared.component.Component.{Component}
 use Rattle.controller.specs.Rules.{fresh, with_task, with_use, tasks_of, Within, InRange, InTime, Distinct, Sound}
 use Rattle.controller.specs.Draft.{component_refusal, task_refusal, use_refusal}
@@ -95,3 +95,8 @@ sound_use cs i resource access old accepted h =
 pub written : (v : ArrayVec Component) (now : List Component) (i : ℕ) (new c : Component) → now ≡ v.items → new ≡ c → Sound (set v.items i c) → Sound (with_items v (set now i new)).items
 written v now i new c a e h =
     subst Sound (sym (items-with_items v (set now i new) (ap length (ap (λ xs. set xs i new) a) ∙ length-set v.items i new) ∙ (ap (λ xs. set xs i new) a ∙ ap (set v.items i) e))) h
+
+-- a refused call leaves all as it was
+pub unchanged : {X : Type 0} (o : Option Refusal) (cause : Refusal) (new old : X) → ◌≡◌ {A = Result (Unit {0}) Refusal} (Err cause) (answered o tt) → old ≡ unless_refused o new old
+unchanged None cause new old e = absurd (cc)
+unchanged (Some first) cause new old e = refl

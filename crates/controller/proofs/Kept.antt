@@ -12,7 +12,7 @@ use Rattle.arrayvec.proofs.ArrayVecLemmas.{items-with_items}
 use Rattle.refusals.specs.declared.Refusal.{Refusal}
 use Rattle.refusals.specs.Causes.{answered, unless_refused}
 use Rattle.controller.specs.declared.component.Component.{Component}
-use Rattle.controller.specs.Rules.{fresh, with_task, with_use, tasks_of, Within, InRange, InTime, Distinct, Sound}
+use Rattle.controller.specs.Rules.{fresh, with_task, with_use, tasks_of, Within, InRange, InTime, Distinct, IsSound}
 use Rattle.controller.specs.Draft.{component_refusal, task_refusal, use_refusal}
 
 -- no cause for a refusal holds
@@ -44,7 +44,7 @@ distinct_set cs i c old l same h j k d m n e = h j k d m (omega (arith, length-s
     level : (n : ℕ) → (get_or (set cs i c) n d).level ≡ (get_or cs n d).level
     level n = grind (arith, elements)
 
-pub sound_component : (cs : List Component) (level budget period : ℕ) → Accepted (component_refusal cs level budget period) → Sound cs → Sound (cs ++ fresh level budget period ∷ [])
+pub sound_component : (cs : List Component) (level budget period : ℕ) → Accepted (component_refusal cs level budget period) → IsSound cs → IsSound (cs ++ fresh level budget period ∷ [])
 sound_component cs level budget period accepted h =
     let new = fresh level budget period in
     let room : length cs < 8 = grind (arith, nat_tests) in
@@ -60,7 +60,7 @@ sound_component cs level budget period accepted h =
     }
 
 -- a component may be put in place of another that has its level, where what a plan keeps true of each is true of it
-sound_set : (cs : List Component) (i : ℕ) (old c : Component) → i < length cs → c.level ≡ (get_or cs i old).level → InRange c → InTime c → NoneEmpty c → NoneLonger c → Sound cs → Sound (set cs i c)
+sound_set : (cs : List Component) (i : ℕ) (old c : Component) → i < length cs → c.level ≡ (get_or cs i old).level → InRange c → InTime c → NoneEmpty c → NoneLonger c → IsSound cs → IsSound (set cs i c)
 sound_set cs i old c l same range in_time none_empty none_longer h = record {
   few = omega (arith, length-set {A = Component});
   ranges = All-set InRange cs i c range h.ranges;
@@ -70,7 +70,7 @@ sound_set cs i old c l same range in_time none_empty none_longer h = record {
   affordable = All-set NoneLonger cs i c none_longer h.affordable;
 }
 
-pub sound_task : (cs : List Component) (i deadline : ℕ) (old : Component) → Accepted (task_refusal cs i deadline) → Sound cs → Sound (set cs i (with_task (get_or cs i old) deadline))
+pub sound_task : (cs : List Component) (i deadline : ℕ) (old : Component) → Accepted (task_refusal cs i deadline) → IsSound cs → IsSound (set cs i (with_task (get_or cs i old) deadline))
 sound_task cs i deadline old accepted h =
     let l : i < length cs = grind (arith, nat_tests) in
     let was = get_or cs i old in
@@ -81,7 +81,7 @@ sound_task cs i deadline old accepted h =
     let in_time = All-push (Within 1 1000000) was.deadlines.items deadline (h.deadlines i old l) (grind (arith, nat_tests)) in
     sound_set cs i old new l refl range in_time (h.accesses i old l) (h.affordable i old l) h
 
-pub sound_use : (cs : List Component) (i resource access : ℕ) (old : Component) → Accepted (use_refusal cs i resource access) → Sound cs → Sound (set cs i (with_use (get_or cs i old) resource access))
+pub sound_use : (cs : List Component) (i resource access : ℕ) (old : Component) → Accepted (use_refusal cs i resource access) → IsSound cs → IsSound (set cs i (with_use (get_or cs i old) resource access))
 sound_use cs i resource access old accepted h =
     let l : i < length cs = grind (arith, nat_tests) in
     let was = get_or cs i old in
@@ -92,9 +92,9 @@ sound_use cs i resource access old accepted h =
     sound_set cs i old new l refl (h.ranges i old l) (h.deadlines i old l) none_empty none_longer h
 
 -- a component that was changed through the slice of all of them stands in its place
-pub written : (v : ArrayVec Component) (now : List Component) (i : ℕ) (new c : Component) → now ≡ v.items → new ≡ c → Sound (set v.items i c) → Sound (with_items v (set now i new)).items
+pub written : (v : ArrayVec Component) (now : List Component) (i : ℕ) (new c : Component) → now ≡ v.items → new ≡ c → IsSound (set v.items i c) → IsSound (with_items v (set now i new)).items
 written v now i new c a e h =
-    subst Sound (sym (items-with_items v (set now i new) (ap length (ap (λ xs. set xs i new) a) ∙ length-set v.items i new) ∙ (ap (λ xs. set xs i new) a ∙ ap (set v.items i) e))) h
+    subst IsSound (sym (items-with_items v (set now i new) (ap length (ap (λ xs. set xs i new) a) ∙ length-set v.items i new) ∙ (ap (λ xs. set xs i new) a ∙ ap (set v.items i) e))) h
 
 -- a refused call leaves all as it was
 pub unchanged : {X : Type 0} (o : Option Refusal) (cause : Refusal) (new old : X) → ◌≡◌ {A = Result (Unit {0}) Refusal} (Err cause) (answered o tt) → old ≡ unless_refused o new old

@@ -68,7 +68,7 @@ abbrev pub Affordable : List Component → Type 0
 Affordable cs = All (λ c. EachAccess (λ x. x ≤ c.budget) c) cs
 
 -- what every plan keeps true of the components that it declares, at most 8
-pub record Sound (cs : List Component) : Type 0 where
+pub record IsSound (cs : List Component) : Type 0 where
   pub few : length cs ≤ 8
   pub ranges : Ranges cs
   pub distinct : Distinct cs

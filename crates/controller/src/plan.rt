@@ -1,6 +1,6 @@
 //! The plan that is drafted, declarations into it, and the causes for which one is refused.
 ghost use Rattle.std.specs.Prelude.{◌≡◌, ◌<◌, ◌≤◌, [], length, Ok, Err, IfOk, IfErr, if◌then◌else◌};
-ghost use Rattle.controller.specs.Rules.{Sound};
+ghost use Rattle.controller.specs.Rules.{IsSound};
 
 use crate::component::{Component, RESOURCES};
 use crate::counts::Counts;
@@ -27,7 +27,7 @@ fn ensure(holds: bool, cause: Refusal) -> Result<(), Refusal>
 #[derive(Drop)]
 pub struct Plan {
     components: ArrayVec<Component, COMPONENTS>,
-    ghost sound: { Sound components.items },
+    ghost sound: { IsSound components.items },
 }
 
 impl Plan {
@@ -58,6 +58,7 @@ impl Plan {
     fn check_component(&self, level: u64, budget: u64, period: u64) -> Result<(), Refusal>
         ensures { result ≡ answered (component_refusal (declared self.now) level budget period) tt }
     {
+        // a struct of the three numbers would be made only to be taken apart: each has its own cause
         ensure(!self.components.is_full(), Refusal::ComponentLimit)?;
         ensure((1..=HIGHEST_LEVEL).contains(&level), Refusal::LevelRange)?;
         ensure(!self.level_taken(level), Refusal::LevelTaken)?;
@@ -70,6 +71,7 @@ impl Plan {
         ensures known { IfOk result (λ c. (component < length (declared self.now)) × (c.now ≡ component_at (declared self.now) component)) }
         ensures unknown { IfErr result (λ cause. (cause ≡ Refusal.UnknownComponent) × (length (declared self.now) ≤ component)) }
     {
+        // `as`, here and below: From has nothing between u64 and usize, and no cast here loses a bit
         self.components
             .get(component as usize)
             .ok_or(Refusal::UnknownComponent)
@@ -107,7 +109,7 @@ impl Plan {
         ensures after { declared self.new ≡ component_declared (declared self.old) level budget period }
     {
         self.check_component(level, budget, period)?;
-        // each number was checked against its limit, so that no cast loses a bit of it
+        // each number was checked against its limit, so that no cast loses a bit
         let number = self.components.len();
         self.components
             .push(Component::new(level as u8, budget as u32, period as u32));

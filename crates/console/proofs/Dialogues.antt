@@ -1,6 +1,6 @@
 -- A session, byte by byte.
 use Rattle.std.proofs.Common.{◌≡◌, ℕ, ◌+◌, ◌<◌, ◌≤◌, List, [], ◌∷◌, ◌++◌, length, get_or, take, sym, refl, ap, ◌∙◌, subst, ⊎_elim, append_assoc, append-nil, arith}
-use Rattle.std.proofs.ByRecursion.{All-push}
+use Rattle.std.proofs.lemmas.List.Elements.{All-nil, All-push}
 use Rattle.std.proofs.lemmas.List.{take_all, take-append-le, take_more, length-take-le, flat_map_more}
 use Rattle.std.proofs.lemmas.Bool.{cases_lt}
 use Rattle.std.specs.List.{flat_map}
@@ -20,7 +20,7 @@ started session d k = record {
   lines = [];
   rest = [];
   answers = [];
-  cut = record { whole = refl; unbroken = tt; open_end = tt };
+  cut = record { whole = refl; unbroken = All-nil Unbroken; open_end = All-nil (λ b. b ≡ 10 → ⊥) };
   said = subst (λ x. Dialogue [] [] x) (sym d) Dialogue.begin;
   wrote = refl;
   kept = k;
@@ -61,7 +61,7 @@ line_ended input output was is before after e r = record {
   cut = record {
     whole = ap (λ l. l ++ 10 ∷ []) r.cut.whole ∙ append_assoc (flat_map ended r.lines) r.rest (10 ∷ []) ∙ flat_map_more ended [] r.lines r.rest ∙ sym (append-nil (flat_map ended (r.lines ++ r.rest ∷ [])));
     unbroken = All-push Unbroken r.lines r.rest r.cut.unbroken r.cut.open_end;
-    open_end = tt;
+    open_end = All-nil (λ b. b ≡ 10 → ⊥);
   };
   said = Dialogue.next r.rest e.answer (state_of after.console) r.said (whole_line _ _ r.rest (kept_in before.buffer) e.answer r.kept e.answered);
   wrote = ap (λ l. l ++ ended (answer_text e.answer)) r.wrote ∙ flat_map_more (λ answer. ended (answer_text answer)) [] r.answers e.answer;
@@ -69,13 +69,6 @@ line_ended input output was is before after e r = record {
 }
 
 -- a loop over the bytes of one call
-pub fed_none : (input output was : List ℕ) (session : Session) → Reached input output session → Fed input output [] session was was
-fed_none input output was session r = record {
-  more = [];
-  adds = sym (append-nil was);
-  reached = subst (λ i. Reached i (output ++ []) session) (sym (append-nil input)) (subst (λ o. Reached input o session) (sym (append-nil output)) r);
-}
-
 fed_byte : (input output bytes was is : List ℕ) (before after : Session) (b : ℕ) → (b ≡ 10 → ⊥) → after.console ≡ before.console → kept_in after.buffer ≡ take 81 (kept_in before.buffer ++ b ∷ []) → Fed input output bytes before was is
     → Fed input output (bytes ++ b ∷ []) after was is
 fed_byte input output bytes was is before after b other same k f = record {

@@ -1,5 +1,3 @@
-mod Spelling
 mod Keeping
-mod Reaches
 mod Dialogues
 mod Room

@@ -1,10 +1,7 @@
 -- One call after another, and the memory that they need.
-use Rattle.std.proofs.Common.{ℕ, ◌+◌, ◌≤◌, Bool, true, Vec, refl, arith}
+use Rattle.std.proofs.Common.{ℕ, ◌+◌, ◌≤◌, Bool, true, Vec, arith}
 use Rattle.std.specs.declared.alloc.Global.{Global}
 use Rattle.console.specs.Memory.{Adds}
-
-pub nothing : (was : Vec ℕ Global) (most : ℕ) → Adds most was was true
-nothing was most = record { keeps = omega arith; few = omega arith; succeeds = λ h. refl }
 
 -- after a call that succeeded, another
 pub after : {a b most : ℕ} {was mid is : Vec ℕ Global} {ok : Bool} → a + b ≤ most → Adds a was mid true → Adds b mid is ok → Adds most was is ok

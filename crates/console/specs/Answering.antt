@@ -1,14 +1,13 @@
 -- One line in, one answer out.
 use Rattle.std.specs.Prelude.{◌≡◌, ℕ, List, None, Ok, Err, Option, Result}
-use Rattle.refusals.specs.declared.Refusal.{Refusal}
 use Rattle.bracket.specs.declared.commands.Command.{Command}
 use Rattle.bracket.specs.declared.faults.LineFault.{LineFault}
 use Rattle.bracket.specs.Reads.{ReadAs}
-use Rattle.console.specs.declared.answers.Reply.{Reply}
 use Rattle.console.specs.declared.answers.Answer.{Answer}
-use Rattle.console.specs.declared.answers.Answer.TheVariants.{Accepted, Refused, Unreadable}
+use Rattle.console.specs.declared.answers.Answer.TheVariants.{Unreadable}
 use Rattle.console.specs.declared.console.Console.{Console}
 use Rattle.console.specs.declared.tally.Tally.{Tally}
+use Rattle.console.specs.Answers.{replied}
 use Rattle.console.specs.Drafting.{Draft, draft_of, outcome_of}
 use Rattle.console.specs.Tallies.{no_lines, line_after, tallied}
 
@@ -22,10 +21,6 @@ state_of console = record { draft = draft_of console.controller; tally = console
 
 abbrev pub fresh_state : State
 fresh_state = record { draft = None; tally = no_lines }
-
-abbrev pub replied : Result Reply Refusal → Answer
-replied (Ok reply) = Accepted reply
-replied (Err refusal) = Refused refusal
 
 -- the answer to a line that reads so
 abbrev pub answer_to : State → Result Command LineFault → Answer

@@ -1,11 +1,17 @@
--- What is printed of an answer.
-use Rattle.std.specs.Prelude.{ℕ, List, ◌++◌, codes, decimal}
+-- What a line is answered, and what is printed of it.
+use Rattle.std.specs.Prelude.{ℕ, List, ◌++◌, Ok, Err, Result, codes, decimal}
 use Rattle.refusals.specs.Numbers.{number_of}
+use Rattle.refusals.specs.declared.Refusal.{Refusal}
 use Rattle.bracket.specs.Faults.{fault_text}
 use Rattle.console.specs.declared.answers.Reply.{Reply}
 use Rattle.console.specs.declared.answers.Reply.TheVariants.{Done, Number}
 use Rattle.console.specs.declared.answers.Answer.{Answer}
 use Rattle.console.specs.declared.answers.Answer.TheVariants.{Accepted, Refused, Unreadable}
+
+-- a command is accepted with its reply, or refused
+abbrev pub replied : Result Reply Refusal → Answer
+replied (Ok reply) = Accepted reply
+replied (Err refusal) = Refused refusal
 
 abbrev pub reply_text : Reply → List ℕ
 reply_text Done = codes "(ok)"

@@ -1,6 +1,6 @@
 -- A whole input, fed in pieces: its lines, their answers, and what is printed.
 use Rattle.std.specs.Prelude.{◌≡◌, ℕ, List, [], ◌∷◌, ◌++◌, take, ◌≢◌}
-use Rattle.std.specs.List.{flat_map, AllByRecursion}
+use Rattle.std.specs.List.{flat_map, All}
 use Rattle.console.specs.declared.answers.Answer.{Answer}
 use Rattle.console.specs.declared.report.Report.{Report}
 use Rattle.console.specs.declared.session.Session.{Session}
@@ -15,12 +15,12 @@ ended line = line ++ 10 ∷ []
 
 -- no byte 10 among them
 abbrev pub Unbroken : List ℕ → Type 0
-Unbroken bytes = AllByRecursion (λ b. b ≢ 10) bytes
+Unbroken bytes = All (λ b. b ≢ 10) bytes
 
 -- the input is these lines, each ended, and then the rest of a line that is not ended
 pub record Cut (input : List ℕ) (lines : List (List ℕ)) (rest : List ℕ) : Type 0 where
   pub whole : input ≡ flat_map ended lines ++ rest
-  pub unbroken : AllByRecursion Unbroken lines
+  pub unbroken : All Unbroken lines
   pub open_end : Unbroken rest
 
 -- a rest that is not empty is the last line

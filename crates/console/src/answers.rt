@@ -2,7 +2,7 @@
 ghost use Rattle.std.specs.Prelude.{◌≡◌, ◌++◌, is_ok, OnOk};
 ghost use Rattle.bracket.specs.Faults.{fault_text};
 ghost use Rattle.console.specs.Memory.{Adds};
-ghost use Rattle.console.specs.Answers.{answer_text, reply_text};
+ghost use Rattle.console.specs.Answers.{answer_text, reply_text, replied};
 
 use super::texts::{fill, push_text};
 use bracket::LineFault;
@@ -24,6 +24,17 @@ pub enum Answer {
     Accepted(Reply),
     Refused(Refusal),
     Unreadable { line: u64, fault: LineFault },
+}
+
+impl From<Result<Reply, Refusal>> for Answer {
+    ghost from_gives = { λ reply answer. answer ≡ replied reply };
+
+    fn from(reply: Result<Reply, Refusal>) -> Answer {
+        match reply {
+            Ok(reply) => Answer::Accepted(reply),
+            Err(refusal) => Answer::Refused(refusal),
+        }
+    }
 }
 
 impl Reply {
@@ -49,8 +60,7 @@ fn push_fault(line: u64, fault: LineFault, out: &mut Vec<u8>) -> Result<(), Allo
         b" # # #)",
         &[line, fault.column() as u64, u64::from(fault.cause())],
         out,
-    )?;
-    Ok(())
+    )
 }
 
 impl Answer {

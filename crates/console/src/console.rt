@@ -8,7 +8,7 @@ use super::answers::{Answer, Reply};
 use super::report::Report;
 use super::tally::Tally;
 use bracket::{BoardText, Command, Side, read};
-use controller::{Controller, Counts};
+use controller::Controller;
 use refusals::Refusal;
 
 /// What is kept between lines.
@@ -22,7 +22,7 @@ pub struct Console {
 fn side_reaches(side: Side) -> bool
     ensures { result ≡ reaches side }
 {
-    1 <= side.reach && side.reach <= 8
+    (1..=8).contains(&side.reach)
 }
 
 fn board_reaches(board: BoardText) -> bool
@@ -44,25 +44,20 @@ fn draft(controller: &mut Controller<BoardText>, command: Command) -> Result<Rep
             level,
             budget,
             period,
-        } => {
-            let number = controller.component(level, budget, period)?;
-            Ok(Reply::Number(number))
-        }
+        } => controller
+            .component(level, budget, period)
+            .map(Reply::Number),
         Command::Task {
             component,
             deadline,
-        } => {
-            let number = controller.task(component, deadline)?;
-            Ok(Reply::Number(number))
-        }
+        } => controller.task(component, deadline).map(Reply::Number),
         Command::Use {
             component,
             resource,
             access,
-        } => {
-            controller.declare_use(component, resource, access)?;
-            Ok(Reply::Done)
-        }
+        } => controller
+            .declare_use(component, resource, access)
+            .map(|()| Reply::Done),
         _ => Err(Refusal::WrongPhase),
     }
 }
@@ -84,7 +79,7 @@ impl Console {
         ensures after { draft_of self.new.controller ≡ (outcome_of (draft_of self.old.controller) command).draft }
         ensures tally { self.new.tally ≡ self.old.tally }
     {
-        if let Some(controller) = self.controller.as_mut() {
+        if let Some(controller) = &mut self.controller {
             return draft(controller, command);
         }
         let Command::Board(board) = command else {
@@ -102,10 +97,7 @@ impl Console {
         ensures { Answered (state_of self.old) line.now result (state_of self.new) }
     {
         let answer = match read(line) {
-            Ok(command) => match self.carry_out(command) {
-                Ok(reply) => Answer::Accepted(reply),
-                Err(refusal) => Answer::Refused(refusal),
-            },
+            Ok(command) => self.carry_out(command).into(),
             Err(fault) => Answer::Unreadable {
                 line: self.tally.next_line(),
                 fault,
@@ -119,17 +111,10 @@ impl Console {
     pub fn report(&self) -> Report
         ensures { result ≡ report_of (state_of self.now) }
     {
-        let counts = match &self.controller {
-            Some(controller) => controller.counts(),
-            None => Counts {
-                components: 0,
-                tasks: 0,
-                uses: 0,
-            },
-        };
+        let counts = self.controller.as_ref().map(Controller::counts);
         Report {
             tally: self.tally,
-            counts,
+            counts: counts.unwrap_or_default(),
         }
     }
 }

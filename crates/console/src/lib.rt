@@ -4,8 +4,6 @@
 mod answers;
 mod buffer;
 mod console;
-mod feed;
-mod keep;
 mod making;
 mod report;
 mod session;

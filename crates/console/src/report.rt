@@ -36,7 +36,6 @@ impl Report {
                 plan.uses,
             ],
             out,
-        )?;
-        Ok(())
+        )
     }
 }

@@ -5,7 +5,7 @@ ghost use Rattle.console.specs.Tallies.{no_lines, line_after, tallied};
 use super::answers::Answer;
 
 /// Lines by the sort of their answer. Each count stays at the largest `u64` once it is there.
-#[derive(Clone, Copy, PartialEq, Eq, Debug)]
+#[derive(Clone, Copy, PartialEq, Eq, Debug, Default)]
 pub struct Tally {
     pub lines: u64,
     pub accepted: u64,
@@ -17,12 +17,7 @@ impl Tally {
     pub(crate) fn new() -> Tally
         ensures { result ≡ no_lines }
     {
-        Tally {
-            lines: 0,
-            accepted: 0,
-            refused: 0,
-            unreadable: 0,
-        }
+        Tally::default()
     }
 
     // The number of the line that comes next, from 1.

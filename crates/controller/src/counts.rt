@@ -1,5 +1,5 @@
 /// How much a plan declares.
-#[derive(Clone, Copy, PartialEq, Eq, Debug)]
+#[derive(Clone, Copy, PartialEq, Eq, Debug, Default)]
 pub struct Counts {
     /// The components.
     pub components: u64,

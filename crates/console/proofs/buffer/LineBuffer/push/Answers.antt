@@ -1,8 +1,10 @@
+use Rattle.std.proofs.Common.{◌∙◌, arith}
+use Rattle.std.proofs.lemmas.Bool.Decides.{nat_tests}
 use Rattle.console.proofs.Keeping.{room, full}
 use Rattle.console.proofs.buffer.LineBuffer.push.Goals as goal
 
-pub returns-then-self-lt-PLACES : goal.returns-then-self-lt-PLACES
-returns-then-self-lt-PLACES c = room c.args.self.now.bytes c.args.self.now.len c.args.byte c.args.self.now.places c.if-self-lt-PLACES.true
+pub returns-then-not-is_full : goal.returns-then-not-is_full
+returns-then-not-is_full c = c.push.ensures.items ∙ room _ c.args.byte (grind (arith, nat_tests))
 
-pub returns-else-self-lt-PLACES : goal.returns-else-self-lt-PLACES
-returns-else-self-lt-PLACES c = full c.args.self.now.bytes c.args.self.now.len c.args.byte c.args.self.now.places c.if-self-lt-PLACES.false c.args.self.now.fits
+pub returns-else-not-is_full : goal.returns-else-not-is_full
+returns-else-not-is_full c = full _ c.args.byte (grind (arith, nat_tests))

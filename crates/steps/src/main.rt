@@ -8,7 +8,7 @@ use std::alloc::AllocError;
 use std::fs::File;
 use std::io::{ErrorKind, Read, Write};
 use std::process::ExitCode;
-use std::{env, io};
+use std::{env, fmt, io};
 
 // As much of the input as is read at once.
 const PIECE: usize = 65536;
@@ -30,31 +30,32 @@ impl From<AllocError> for Failure {
     }
 }
 
+impl fmt::Display for Failure {
+    fn fmt<W: fmt::Write>(&self, f: &mut fmt::Formatter<W>) -> fmt::Result {
+        match self {
+            Failure::Memory => write!(f, "out of memory"),
+            Failure::Read(error) => write!(f, "cannot read: {error}"),
+            Failure::Write(error) => write!(f, "cannot write: {error}"),
+        }
+    }
+}
+
 // Writes all that is to be printed, and makes it seen at once.
 fn print(rt: &HostRuntime, text: &[u8]) -> Result<(), Failure> {
     let mut out = rt.stdout();
-    match out.write_all(text) {
-        Ok(()) => {}
-        Err(error) => return Err(Failure::Write(error)),
-    }
-    match out.flush() {
-        Ok(()) => Ok(()),
-        Err(error) => Err(Failure::Write(error)),
-    }
+    out.write_all(text).map_err(Failure::Write)?;
+    out.flush().map_err(Failure::Write)
 }
 
 // The next piece of the input: how many bytes it has, or 0 at the end.
 fn next_piece<R: Read>(input: &mut R, piece: &mut [u8]) -> Result<usize, Failure>
     ensures { IfOk result (λ len. len ≤ length piece.new) }
 {
+    // the count stands for a loop with no bound, which only a function that may run forever can have
     for _ in 0..u64::MAX {
         match input.read(piece) {
-            Ok(len) => return Ok(len),
-            Err(error) => {
-                if error.kind() != ErrorKind::Interrupted {
-                    return Err(Failure::Read(error));
-                }
-            }
+            Err(error) if error.kind() == ErrorKind::Interrupted => {}
+            read => return read.map_err(Failure::Read),
         }
     }
     Ok(0)
@@ -66,12 +67,13 @@ fn answer<R: Read>(rt: &HostRuntime, input: &mut R, name: &str) -> Result<(), Fa
     let mut piece = vec![in heap; 0u8; PIECE]?;
     let mut out = Vec::with_capacity(heap, ANSWERS)?;
     let mut session = Session::new();
+    // a count here too
     for _ in 0..u64::MAX {
         let len = next_piece(input, &mut piece)?;
         if len == 0 {
             break;
         }
-        session.feed(&piece[0..len], &mut out)?;
+        session.feed(&piece[..len], &mut out)?;
         print(rt, &out)?;
         out.clear();
     }
@@ -79,10 +81,7 @@ fn answer<R: Read>(rt: &HostRuntime, input: &mut R, name: &str) -> Result<(), Fa
     print(rt, &out)?;
     out.clear();
     report.write(name.as_bytes(), &mut out)?;
-    match rt.stderr().write_all(&out) {
-        Ok(()) => Ok(()),
-        Err(error) => Err(Failure::Write(error)),
-    }
+    rt.stderr().write_all(&out).map_err(Failure::Write)
 }
 
 // One argument: a file, or standard input where it is `-`.
@@ -90,45 +89,31 @@ fn open_and_answer(rt: &HostRuntime, name: &str) -> Result<(), Failure> {
     if name == "-" {
         return answer(rt, &mut rt.stdin(), name);
     }
-    match File::open(rt, name) {
-        Ok(mut file) => answer(rt, &mut file, name),
-        Err(error) => Err(Failure::Read(error)),
-    }
+    let mut file = File::open(rt, name).map_err(Failure::Read)?;
+    answer(rt, &mut file, name)
 }
 
 // Says on standard error what went wrong with an input. There is nowhere else to say that this failed too.
 fn explain(rt: &HostRuntime, name: &str, failure: &Failure) {
-    let _ = match failure {
-        Failure::Memory => eprintln!(rt; "steps: {name}: out of memory"),
-        Failure::Read(error) => eprintln!(rt; "steps: {name}: cannot read: {error}"),
-        Failure::Write(error) => eprintln!(rt; "steps: {name}: cannot write: {error}"),
-    };
+    let _ = eprintln!(rt; "steps: {name}: {failure}");
 }
 
-// Answers each argument, or standard input without one, and explains the first failure, which ends the run.
+// Answers one argument, and explains what went wrong with it.
+fn answer_named(rt: &HostRuntime, name: &str) -> Result<(), Failure> {
+    open_and_answer(rt, name).inspect_err(|failure| explain(rt, name, failure))
+}
+
+// Answers each argument, or standard input without one. The first failure ends the run.
 fn run(rt: &HostRuntime) -> Result<(), Failure> {
-    let args = match env::args(rt) {
-        Ok(args) => args,
-        Err(error) => {
-            let failure = Failure::Read(error);
-            explain(rt, "arguments", &failure);
-            return Err(failure);
-        }
-    };
-    let mut named = false;
-    for name in args.skip(1) {
-        named = true;
-        if let Err(failure) = open_and_answer(rt, name.as_str()) {
-            explain(rt, name.as_str(), &failure);
-            return Err(failure);
-        }
+    let args = env::args(rt)
+        .map_err(Failure::Read)
+        .inspect_err(|failure| explain(rt, "arguments", failure))?;
+    let mut names = args.skip(1).peekable();
+    if names.peek().is_none() {
+        return answer_named(rt, "-");
     }
-    if named {
-        return Ok(());
-    }
-    if let Err(failure) = open_and_answer(rt, "-") {
-        explain(rt, "-", &failure);
-        return Err(failure);
+    for name in names {
+        answer_named(rt, name.as_str())?;
     }
     Ok(())
 }

@@ -38,24 +38,22 @@ fn forms_are_read(rt: HostRuntime) {
     );
 }
 
-// The cause and the column of a line's fault, or zeros where the line is read.
-fn fault_of(line: &[u8]) -> (u8, usize) {
-    match read(line) {
-        Ok(_) => (0, 0),
-        Err(fault) => (fault.cause(), fault.column()),
-    }
+// The cause and the column of a line's fault, or nothing where the line is read.
+fn fault_of(line: &[u8]) -> Option<(u8, usize)> {
+    let fault = read(line).err()?;
+    Some((fault.cause(), fault.column()))
 }
 
 #[test]
 fn faults_are_found(rt: HostRuntime) {
-    assert!(rt; fault_of(b"(tick)") == (0, 0));
-    assert!(rt; fault_of(b"") == (32, 1));
-    assert!(rt; fault_of(b"(seal 0)") == (32, 1));
-    assert!(rt; fault_of(b"(task 0 20) ") == (32, 1));
-    assert!(rt; fault_of(b"(task 0 020)") == (31, 9));
-    assert!(rt; fault_of(b"(holder 10000000000000000)") == (31, 9));
-    assert!(rt; fault_of(b"(components 1)") == (31, 2));
-    assert!(rt; fault_of(b"(Tick 00)") == (30, 2));
-    assert!(rt; fault_of(&[b' '; 80]) == (32, 1));
-    assert!(rt; fault_of(&[b' '; 81]) == (33, 81));
+    assert_eq!(rt; fault_of(b"(tick)"), None);
+    assert_eq!(rt; fault_of(b""), Some((32, 1)));
+    assert_eq!(rt; fault_of(b"(seal 0)"), Some((32, 1)));
+    assert_eq!(rt; fault_of(b"(task 0 20) "), Some((32, 1)));
+    assert_eq!(rt; fault_of(b"(task 0 020)"), Some((31, 9)));
+    assert_eq!(rt; fault_of(b"(holder 10000000000000000)"), Some((31, 9)));
+    assert_eq!(rt; fault_of(b"(components 1)"), Some((31, 2)));
+    assert_eq!(rt; fault_of(b"(Tick 00)"), Some((30, 2)));
+    assert_eq!(rt; fault_of(&[b' '; 80]), Some((32, 1)));
+    assert_eq!(rt; fault_of(&[b' '; 81]), Some((33, 81)));
 }

@@ -1,7 +1,7 @@
 -- Known forms: a line is read as a command exactly where it is the command's text.
 use Rattle.std.proofs.Common.{◌≡◌, ℕ, ◌^◌, ◌<◌, Bool, true, false, cond, ◌&&◌, ◌⊎◌, List, ◌∷◌, ◌++◌, Some, None, codes, decimal, Option, sym, refl, ap, ◌∙◌, subst, inl, inr, ⊎_elim, append_assoc, arith, take-append-drop}
 use Rattle.std.proofs.lemmas.Bool.{and_parts}
-use Rattle.std.specs.List.{prefix_len, AllByRecursion}
+use Rattle.std.specs.List.{prefix_len, list_all, AllByRecursion}
 use Rattle.std.specs.Str.{bytes_eq}
 use Rattle.bracket.specs.declared.commands.Kind.{Kind}
 use Rattle.bracket.specs.declared.commands.Kind.TheVariants.{Fixed, Deadline}
@@ -10,7 +10,7 @@ use Rattle.bracket.specs.declared.commands.BoardText.{BoardText}
 use Rattle.bracket.specs.declared.commands.BoardText.TheVariants.{Single, Join}
 use Rattle.bracket.specs.declared.commands.Command.{Command}
 use Rattle.bracket.specs.declared.commands.Command.TheVariants.{Board, Component, Task, Use, Release, Done, Lock, Unlock, Tick, Runner, Budget, Ceiling, Holder, Bound, Assured}
-use Rattle.bracket.specs.Characters.{in_run, run_of, past_run, every}
+use Rattle.bracket.specs.Characters.{in_run, run_of, past_run}
 use Rattle.bracket.specs.Items.{and_then, after, or_else, number_item, one_item, two_items, three_items, kind_of, side_item, join_items, single_items, board_items, component_items, draft_form, call_form, question_form, form_of}
 use Rattle.bracket.specs.Texts.{item, kind_text, side_text, board_text, board_numbers, text, numbers, Writes}
 use Rattle.bracket.proofs.Parsing.{and_then_lem, taken, after_is, same_text, run_front, run_rest, number_item_is, number_item_reads, one_is, one_reads, two_is, two_reads, three_is, three_reads}
@@ -205,12 +205,12 @@ form_is line command h =
     subst (λ l. Writes command l) e said
 
 -- what is written is read
-form_at : (word items : List ℕ) → every in_run word ≡ true → prefix_len in_run items ≡ 0 → form_of (40 ∷ (word ++ items)) ≡ or_else (draft_form word items) (or_else (call_form word items) (question_form word items))
+form_at : (word items : List ℕ) → list_all in_run word ≡ true → prefix_len in_run items ≡ 0 → form_of (40 ∷ (word ++ items)) ≡ or_else (draft_form word items) (or_else (call_form word items) (question_form word items))
 form_at word items e l =
     ap (λ w. or_else (draft_form w (past_run (word ++ items))) (or_else (call_form w (past_run (word ++ items))) (question_form w (past_run (word ++ items))))) (run_front word items e l)
     ∙ ap (λ i. or_else (draft_form word i) (or_else (call_form word i) (question_form word i))) (run_rest word items e l)
 
-module _ (word items : List ℕ) (command : Command) (e : every in_run word ≡ true) (l : prefix_len in_run items ≡ 0) where
+module _ (word items : List ℕ) (command : Command) (e : list_all in_run word ≡ true) (l : prefix_len in_run items ≡ 0) where
   draft_reads : draft_form word items ≡ Some command → form_of (40 ∷ (word ++ items)) ≡ Some command
   draft_reads d = form_at word items e l ∙ ap (λ o. or_else o (or_else (call_form word items) (question_form word items))) d
 

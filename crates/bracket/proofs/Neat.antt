@@ -2,7 +2,7 @@
 use Rattle.std.proofs.Common.{◌≡◌, ℕ, zero, suc, ◌+◌, ◌<◌, ◌≤◌, Bool, true, false, cond, ◌||◌, List, [], ◌∷◌, ◌++◌, length, Some, None, codes, decimal, sym, refl, ap, ◌∙◌, subst, arith, length-append}
 use Rattle.std.proofs.lemmas.Fmt.{length-decimal-le, decimal_nonempty}
 use Rattle.std.proofs.lemmas.Bool.{and_parts, or_right}
-use Rattle.std.specs.List.{prefix_len, AllByRecursion}
+use Rattle.std.specs.List.{prefix_len, list_all, AllByRecursion}
 use Rattle.bracket.specs.declared.words.Class.{Class}
 use Rattle.bracket.specs.declared.words.Class.TheVariants.{Open, Close, Space, Digit, Letter, Other}
 use Rattle.bracket.specs.declared.faults.WordFault.TheVariants.{Run}
@@ -13,7 +13,7 @@ use Rattle.bracket.specs.declared.commands.BoardText.{BoardText}
 use Rattle.bracket.specs.declared.commands.BoardText.TheVariants.{Single, Join}
 use Rattle.bracket.specs.declared.commands.Command.{Command}
 use Rattle.bracket.specs.declared.commands.Command.TheVariants.{Board, Component, Task, Use, Release, Done, Lock, Unlock, Tick, Runner, Budget, Ceiling, Holder, Bound, Assured}
-use Rattle.bracket.specs.Characters.{class_of, digit_class, letter_class, in_run, run_of, every, is_word, is_number}
+use Rattle.bracket.specs.Characters.{class_of, digit_class, letter_class, in_run, run_of, is_word, is_number}
 use Rattle.bracket.specs.Faults.{fit, wrong, wrong_at, Clean}
 use Rattle.bracket.specs.Texts.{item, kind_text, side_text, board_text, board_numbers, text, numbers, Writes}
 use Rattle.bracket.proofs.Decimal.{decimal_number}
@@ -44,16 +44,16 @@ start_run Digit inside run column h f = ap (λ b. cond b None (Some (Run column)
 start_run Letter inside run column h f = ap (λ b. cond b None (Some (Run column))) (or_right inside (fit run) f)
 start_run Other inside run column h f = let z : ◌≡◌ {A = ℕ} 0 1 = cc in absurd (omega arith)
 
-tidy_inner : (run rest : List ℕ) → every in_run run ≡ true → Tidy true rest → Tidy true (run ++ rest)
+tidy_inner : (run rest : List ℕ) → list_all in_run run ≡ true → Tidy true rest → Tidy true (run ++ rest)
 tidy_inner [] rest e t = t
 tidy_inner (b ∷ run) rest e t =
-    let p = and_parts (in_run b) (every in_run run) e in
+    let p = and_parts (in_run b) (list_all in_run run) e in
     tidy_cons true b (run ++ rest) (λ column. within_run (class_of b) _ column p.0) (subst (λ x. Tidy x (run ++ rest)) (sym p.0) (tidy_inner run rest p.1 t))
 
-tidy_run : (inside : Bool) (run rest : List ℕ) → 0 < length run → every in_run run ≡ true → fit run ≡ true → prefix_len in_run rest ≡ 0 → Tidy true rest → Tidy inside (run ++ rest)
+tidy_run : (inside : Bool) (run rest : List ℕ) → 0 < length run → list_all in_run run ≡ true → fit run ≡ true → prefix_len in_run rest ≡ 0 → Tidy true rest → Tidy inside (run ++ rest)
 tidy_run inside [] rest some e f l t = absurd (omega arith)
 tidy_run inside (b ∷ run) rest some e f l t =
-    let p = and_parts (in_run b) (every in_run run) e in
+    let p = and_parts (in_run b) (list_all in_run run) e in
     tidy_cons inside b (run ++ rest) (λ column. start_run (class_of b) inside _ column p.0 (ap fit (run_front (b ∷ run) rest e l) ∙ f)) (subst (λ x. Tidy x (run ++ rest)) (sym p.0) (tidy_inner run rest p.1 t))
 
 -- bytes that may follow a run: no word fault, and at most so many
@@ -86,7 +86,7 @@ neat_mark {most} {b} {rest} m n = record {
   stops = ap (λ t. cond t (1 + prefix_len in_run rest) 0) m.apart;
 }
 
-neat_run : {most b : ℕ} {rest : List ℕ} (run : List ℕ) (k : ℕ) → Mark b → 0 < length run → length run ≤ k → every in_run run ≡ true → fit run ≡ true → Neat most rest → Neat (most + k + 1) (b ∷ (run ++ rest))
+neat_run : {most b : ℕ} {rest : List ℕ} (run : List ℕ) (k : ℕ) → Mark b → 0 < length run → length run ≤ k → list_all in_run run ≡ true → fit run ≡ true → Neat most rest → Neat (most + k + 1) (b ∷ (run ++ rest))
 neat_run {most} {b} {rest} run k m some few e f n = record {
   tidy = λ inside. tidy_cons inside b (run ++ rest) (λ column. m.fine inside _ column) (tidy_run (in_run b) run rest some e f n.stops (n.tidy true));
   short = let s = n.short in let l = length-append run rest in omega arith;
@@ -97,7 +97,7 @@ neat_item : {most : ℕ} {rest : List ℕ} (n : ℕ) → Small n → Neat most r
 neat_item n h rest =
     neat_run (decimal n) 16 spaces (decimal_nonempty n (omega arith)) (length-decimal-le 16 n (omega arith) h (omega arith)) (decimal_run n h) (or_right (is_word (decimal n)) (is_number (decimal n)) (decimal_number n h)) rest
 
-neat_word : {most b : ℕ} {rest : List ℕ} (word : List ℕ) → Mark b → 0 < length word → every in_run word ≡ true → fit word ≡ true → Neat most rest → Neat (most + length word + 1) (b ∷ (word ++ rest))
+neat_word : {most b : ℕ} {rest : List ℕ} (word : List ℕ) → Mark b → 0 < length word → list_all in_run word ≡ true → fit word ≡ true → Neat most rest → Neat (most + length word + 1) (b ∷ (word ++ rest))
 neat_word word m some e f n = neat_run word (length word) m some (omega arith) e f n
 
 neat_upto : {few most : ℕ} {bytes : List ℕ} → few ≤ most → Neat few bytes → Neat most bytes
@@ -118,7 +118,7 @@ neat_board : (board : BoardText) → AllByRecursion Small (board_numbers board) 
 neat_board (Single side) h = neat_upto (omega arith) (neat_kind side.kind spaces (neat_item side.reach h.0 close))
 neat_board (Join first second) h = neat_upto (omega arith) (neat_word (codes "join") spaces (omega arith) refl refl (neat_side first h.0 (neat_side second h.1.0 close)))
 
-neat_form : {most : ℕ} {rest : List ℕ} (word : List ℕ) → 0 < length word → length word ≤ 9 → every in_run word ≡ true → fit word ≡ true → most ≤ 70 → Neat most rest → Neat 80 (40 ∷ (word ++ rest))
+neat_form : {most : ℕ} {rest : List ℕ} (word : List ℕ) → 0 < length word → length word ≤ 9 → list_all in_run word ≡ true → fit word ≡ true → most ≤ 70 → Neat most rest → Neat 80 (40 ∷ (word ++ rest))
 neat_form word some few e f l n = neat_upto (omega arith) (neat_run word 9 opens some few e f n)
 
 one_neat : {a : ℕ} → Small a → Neat 18 (item a ++ codes ")")

@@ -5,8 +5,8 @@ use Rattle.std.proofs.lemmas.List.{take_at, drop_at}
 use Rattle.std.proofs.lemmas.Bool.{eq-eqb, eqb-true, and_parts, and_from, or_left}
 use Rattle.std.specs.Str.{bytes_eq}
 use Rattle.std.specs.Option.{option_map}
-use Rattle.std.specs.List.{prefix_len}
-use Rattle.bracket.specs.Characters.{digit, letter, in_run, run_of, past_run, every, number_of}
+use Rattle.std.specs.List.{prefix_len, list_all}
+use Rattle.bracket.specs.Characters.{digit, letter, in_run, run_of, past_run, number_of}
 use Rattle.bracket.specs.Items.{and_then, after, number_item, one_item, two_items, three_items}
 use Rattle.bracket.specs.Texts.{item}
 use Rattle.bracket.proofs.Decimal.{number_is, number_decimal, decimal_digits}
@@ -49,24 +49,24 @@ taken true x y h = (refl, cc)
 taken false x y h = let z : ◌≡◌ {A = ℕ} 0 1 = cc in absurd (omega arith)
 
 -- a run that ends where the rest does not go on with a letter or digit
-length_run : (run rest : List ℕ) → every in_run run ≡ true → prefix_len in_run rest ≡ 0 → prefix_len in_run (run ++ rest) ≡ length run
+length_run : (run rest : List ℕ) → list_all in_run run ≡ true → prefix_len in_run rest ≡ 0 → prefix_len in_run (run ++ rest) ≡ length run
 length_run [] rest e h = h
 length_run (b ∷ run) rest e h =
-    let p = and_parts (in_run b) (every in_run run) e in
+    let p = and_parts (in_run b) (list_all in_run run) e in
     let k = length_run run rest p.1 h in
     ap (λ t. cond t (1 + prefix_len in_run (run ++ rest)) 0) p.0 ∙ (let g : 1 + prefix_len in_run (run ++ rest) ≡ suc (length run) = omega arith in g)
 
-pub run_front : (run rest : List ℕ) → every in_run run ≡ true → prefix_len in_run rest ≡ 0 → run_of (run ++ rest) ≡ run
+pub run_front : (run rest : List ℕ) → list_all in_run run ≡ true → prefix_len in_run rest ≡ 0 → run_of (run ++ rest) ≡ run
 run_front run rest e h = take_at run rest _ (sym (length_run run rest e h))
 
-pub run_rest : (run rest : List ℕ) → every in_run run ≡ true → prefix_len in_run rest ≡ 0 → past_run (run ++ rest) ≡ rest
+pub run_rest : (run rest : List ℕ) → list_all in_run run ≡ true → prefix_len in_run rest ≡ 0 → past_run (run ++ rest) ≡ rest
 run_rest run rest e h = drop_at run rest _ (sym (length_run run rest e h))
 
-every_inner : (run : List ℕ) → every digit run ≡ true → every in_run run ≡ true
+every_inner : (run : List ℕ) → list_all digit run ≡ true → list_all in_run run ≡ true
 every_inner [] e = refl
-every_inner (b ∷ run) e = let p = and_parts (digit b) (every digit run) e in and_from (in_run b) (every in_run run) (or_left (digit b) (letter b) p.0) (every_inner run p.1)
+every_inner (b ∷ run) e = let p = and_parts (digit b) (list_all digit run) e in and_from (in_run b) (list_all in_run run) (or_left (digit b) (letter b) p.0) (every_inner run p.1)
 
-pub decimal_run : (n : ℕ) → n < 10 ^ 16 → every in_run (decimal n) ≡ true
+pub decimal_run : (n : ℕ) → n < 10 ^ 16 → list_all in_run (decimal n) ≡ true
 decimal_run n h = every_inner (decimal n) (decimal_digits n h)
 
 -- number items: what is read is what is written, and what is written is read

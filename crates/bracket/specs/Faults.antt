@@ -1,7 +1,7 @@
 -- Faults: the first word fault of a line, and what is printed of each fault.
 use Rattle.std.specs.Prelude.{◌≡◌, ℕ, zero, suc, ◌+◌, ◌<◌, Bool, false, cond, ◌||◌, List, [], ◌∷◌, ◌++◌, length, Some, None, codes, decimal, Option}
 use Rattle.bracket.specs.declared.words.Class.{Class}
-use Rattle.bracket.specs.declared.words.Class.TheVariants.{Open, Close, Space, Digit, Letter, Other}
+use Rattle.bracket.specs.declared.words.Class.TheVariants.{Digit, Letter, Other}
 use Rattle.bracket.specs.declared.faults.WordFault.{WordFault}
 use Rattle.bracket.specs.declared.faults.WordFault.TheVariants.{Byte, Run}
 use Rattle.bracket.specs.declared.faults.FormFault.TheVariants.{Word, Unknown}
@@ -15,12 +15,10 @@ fit run = is_word run || is_number run
 
 -- what is wrong where a character of this class stands: the character itself, or the run that begins there. `inside` says that the run began before
 abbrev pub wrong : Class → Bool → List ℕ → ℕ → Option WordFault
-wrong Open inside run column = None
-wrong Close inside run column = None
-wrong Space inside run column = None
 wrong Digit inside run column = cond (inside || fit run) None (Some (Run column))
 wrong Letter inside run column = cond (inside || fit run) None (Some (Run column))
 wrong Other inside run column = Some (Byte column)
+wrong _ inside run column = None
 
 -- what is wrong at index i of the bytes, the first of which stands in this column
 abbrev pub wrong_at : Bool → ℕ → List ℕ → ℕ → Option WordFault

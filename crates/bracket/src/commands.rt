@@ -1,7 +1,7 @@
 //! The commands that bracket text can say.
 
 /// How a board picks the job that a component runs next.
-#[derive(Clone, Copy)]
+#[derive(Clone, Copy, PartialEq, Eq, Debug)]
 pub enum Kind {
     /// By fixed priority.
     Fixed,
@@ -10,21 +10,21 @@ pub enum Kind {
 }
 
 /// One board of a board form, with the reach as it is written.
-#[derive(Clone, Copy)]
+#[derive(Clone, Copy, PartialEq, Eq, Debug)]
 pub struct Side {
     pub kind: Kind,
     pub reach: u64,
 }
 
 /// The board that a text asks for: one board, or two that are joined.
-#[derive(Clone, Copy)]
+#[derive(Clone, Copy, PartialEq, Eq, Debug)]
 pub enum BoardText {
     Single(Side),
     Join(Side, Side),
 }
 
 /// One command. Its numbers are as they are written: whether they are in range is not the reader's concern.
-#[derive(Clone, Copy)]
+#[derive(Clone, Copy, PartialEq, Eq, Debug)]
 pub enum Command {
     Board(BoardText),
     Component {

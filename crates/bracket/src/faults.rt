@@ -48,8 +48,9 @@ impl LineFault {
     {
         match self {
             LineFault::TooLong => 81,
-            LineFault::Form(FormFault::Word(WordFault::Byte { column })) => column,
-            LineFault::Form(FormFault::Word(WordFault::Run { column })) => column,
+            LineFault::Form(
+                FormFault::Word(WordFault::Byte { column } | WordFault::Run { column }),
+            ) => column,
             LineFault::Form(FormFault::Unknown) => 1,
         }
     }

@@ -24,6 +24,5 @@ pub fn read(line: &[u8]) -> Result<Command, LineFault>
     if line.len() > LONGEST {
         return Err(LineFault::TooLong);
     }
-    let command = form(line)?;
-    Ok(command)
+    Ok(form(line)?)
 }

@@ -1,14 +1,15 @@
 //! Characters, and the runs of letters and digits that words and numbers are made of.
-ghost use Rattle.std.specs.Prelude.{◌≡◌, ◌≤◌, true, length, if◌then◌else◌, Some, None, MatchResult};
-ghost use Rattle.std.specs.List.{prefix_len};
-ghost use Rattle.bracket.specs.Characters.{class_of, digit, letter, in_run, run_of, past_run, every, is_word, read_on, number_of};
+ghost use Rattle.std.specs.Prelude.{◌≡◌, ◌≤◌, length, if◌then◌else◌, Some, None, MatchResult};
+ghost use Rattle.std.specs.List.{list_all, prefix_len};
+ghost use Rattle.std.specs.Result.{result_err};
+ghost use Rattle.bracket.specs.Characters.{class_of, digit, letter, in_run, run_of, past_run, is_word, read_on, number_of};
 ghost use Rattle.bracket.specs.Faults.{fit, wrong, Clean, FirstFault};
 
 use super::faults::WordFault;
 
-/// The sorts of character that the reader tells apart.
-#[derive(Clone, Copy)]
-pub enum Class {
+// The sorts of character that the reader tells apart.
+#[derive(Clone, Copy, PartialEq, Eq, Debug)]
+enum Class {
     Open,
     Close,
     Space,
@@ -17,10 +18,10 @@ pub enum Class {
     Other,
 }
 
-impl Class {
-    pub(crate) fn of(byte: u8) -> Class
-        ensures { result ≡ class_of byte }
-    {
+impl From<u8> for Class {
+    ghost from_gives = { λ byte class. class ≡ class_of byte };
+
+    fn from(byte: u8) -> Class {
         match byte {
             b'(' => Class::Open,
             b')' => Class::Close,
@@ -32,22 +33,10 @@ impl Class {
     }
 }
 
-fn is_digit(byte: u8) -> bool
-    ensures { result ≡ digit byte }
-{
-    matches!(Class::of(byte), Class::Digit)
-}
-
-fn is_letter(byte: u8) -> bool
-    ensures { result ≡ letter byte }
-{
-    matches!(Class::of(byte), Class::Letter)
-}
-
 fn in_run(byte: u8) -> bool
     ensures { result ≡ in_run byte }
 {
-    is_digit(byte) || is_letter(byte)
+    matches!(Class::from(byte), Class::Digit | Class::Letter)
 }
 
 // How long the run at the front is.
@@ -55,42 +44,33 @@ fn run_len(bytes: &[u8]) -> usize
     ensures value { result ≡ prefix_len in_run bytes.now }
     ensures within { result ≤ length bytes.now }
 {
-    for (i, byte) in bytes.iter().enumerate() {
-        if !in_run(*byte) {
-            return i;
-        }
-    }
-    bytes.len()
+    bytes.iter().take_while(|byte| in_run(**byte)).count()
 }
 
 fn all_letters(run: &[u8]) -> bool
-    ensures { result ≡ every letter run.now }
+    ensures { result ≡ list_all letter run.now }
 {
-    for byte in run {
-        if !is_letter(*byte) {
-            return false;
-        }
-    }
-    true
+    run.iter().all(|byte| Class::from(*byte) == Class::Letter)
 }
 
 fn is_word(run: &[u8]) -> bool
     ensures { result ≡ is_word run.now }
 {
-    1 <= run.len() && run.len() <= 9 && all_letters(run)
+    (1..=9).contains(&run.len()) && all_letters(run)
 }
 
 // The value of up to 16 digits; none where another byte is among them.
 fn digits(run: &[u8]) -> Option<u64>
     requires { length run.now ≤ 16 }
-    ensures { result ≡ (if every digit run.now then Some (read_on 0 run.now) else None) }
+    ensures { result ≡ (if list_all digit run.now then Some (read_on 0 run.now) else None) }
 {
-    let mut value: u64 = 0;
+    // a loop and not `try_fold`: a closure does not see how few digits went before, which bounds its sum
+    let mut value = 0;
     for byte in run {
-        if !is_digit(*byte) {
+        if Class::from(*byte) != Class::Digit {
             return None;
         }
-        value = value * 10 + (*byte - b'0') as u64;
+        value = value * 10 + u64::from(*byte - b'0');
     }
     Some(value)
 }
@@ -99,11 +79,11 @@ fn digits(run: &[u8]) -> Option<u64>
 pub(crate) fn number(run: &[u8]) -> Option<u64>
     ensures { result ≡ number_of run.now }
 {
-    let len = run.len();
-    if len < 1 || 16 < len || (len != 1 && run[0] == b'0') {
-        return None;
+    match run {
+        [] | [b'0', _, ..] => None,
+        _ if run.len() <= 16 => digits(run),
+        _ => None,
     }
-    digits(run)
 }
 
 // The run at the front, and what follows it.
@@ -121,19 +101,14 @@ fn is_fit(run: &[u8]) -> bool
 }
 
 // What is wrong where `byte` stands, before the rest of the line that it begins.
-fn fault_at(byte: u8, rest: &[u8], inside: bool, column: usize) -> Option<WordFault>
-    ensures { result ≡ wrong (class_of byte) inside (run_of rest.now) column }
+fn check_at(byte: u8, rest: &[u8], inside: bool, column: usize) -> Result<(), WordFault>
+    ensures { result_err result ≡ wrong (class_of byte) inside (run_of rest.now) column }
 {
-    match Class::of(byte) {
-        Class::Open | Class::Close | Class::Space => None,
-        Class::Digit | Class::Letter => {
-            if inside || is_fit(split_run(rest).0) {
-                None
-            } else {
-                Some(WordFault::Run { column })
-            }
-        }
-        Class::Other => Some(WordFault::Byte { column }),
+    match Class::from(byte) {
+        Class::Open | Class::Close | Class::Space => Ok(()),
+        Class::Digit | Class::Letter if inside || is_fit(split_run(rest).0) => Ok(()),
+        Class::Digit | Class::Letter => Err(WordFault::Run { column }),
+        Class::Other => Err(WordFault::Byte { column }),
     }
 }
 
@@ -141,12 +116,10 @@ fn fault_at(byte: u8, rest: &[u8], inside: bool, column: usize) -> Option<WordFa
 pub(crate) fn check_words(line: &[u8]) -> Result<(), WordFault>
     ensures { MatchResult result (λ _. Clean line.now) (λ fault. FirstFault line.now fault) }
 {
-    // whether the byte before belongs to a run
+    // a loop, since a `try_fold` would hand on this flag and then throw it away: whether the byte before belongs to a run
     let mut inside = false;
     for (i, byte) in line.iter().enumerate() {
-        if let Some(fault) = fault_at(*byte, &line[i..], inside, i + 1) {
-            return Err(fault);
-        }
+        check_at(*byte, &line[i..], inside, i + 1)?;
         inside = in_run(*byte);
     }
     Ok(())

@@ -7,10 +7,10 @@ use Rattle.bracket.proofs.lines.read.Goals as goal
 pub returns-then-line-gt-LONGEST : goal.returns-then-line-gt-LONGEST
 returns-then-line-gt-LONGEST c = read_as c.args.line.now (Err TooLong) (omega arith)
 
-pub returns-in_err-command : goal.returns-in_err-command
-returns-in_err-command c =
+pub returns-in_err-form : goal.returns-in_err-form
+returns-in_err-form c =
     let p = err_from_is_err_and c.from_residual.result c.from_residual.ensures.1 in
-    rw (p.1, p.2) (read_as c.args.line.now (Err (Form _)) (omega arith, c.in_err-command.ensures))
+    rw (p.1, p.2) (read_as c.args.line.now (Err (Form _)) (omega arith, c.in_err-form.ensures))
 
 pub returns : goal.returns
-returns c = read_as c.args.line.now (Ok c.in_ok-command.command) c.in_ok-command.ensures
+returns c = read_as c.args.line.now (Ok c.in_ok-form.field-0) c.in_ok-form.ensures

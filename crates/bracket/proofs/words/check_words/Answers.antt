@@ -1,20 +1,23 @@
 use Rattle.std.proofs.Common.{false, sym, ◌∙◌, arith, below_more}
+use Rattle.std.proofs.lemmas.Result.{err_from_is_err_and}
 use Rattle.bracket.proofs.Places.{inside_start, inside_step, at_place}
 use Rattle.bracket.proofs.words.check_words.Goals as goal
 
 pub loop-i-init : goal.loop-i-init
 loop-i-init c = (λ i h. absurd (omega arith), sym (inside_start false c.args.line.now))
 
-pub returns-in-Some : goal.returns-in-Some
-returns-in-Some c = record {
-  index = c.loop-i.i;
-  within = c.loop-i-test.true;
-  here = at_place c.args.line.now c.loop-i.i c.loop-i.inside _ c.loop-i-test.true c.loop-i.invariant.1 c.in-Some.ensures;
-  before = c.loop-i.invariant.0;
-}
+pub returns-in_err-check_at : goal.returns-in_err-check_at
+returns-in_err-check_at c =
+    let p = err_from_is_err_and c.from_residual.result c.from_residual.ensures.1 in
+    rw (p.1, p.2) (record {
+      index = c.loop-i.i;
+      within = c.loop-i-test.true;
+      here = at_place c.args.line.now c.loop-i.i c.loop-i.inside _ c.loop-i-test.true c.loop-i.invariant.1 c.in_err-check_at.ensures;
+      before = c.loop-i.invariant.0;
+    })
 
 pub loop-i-preserved : goal.loop-i-preserved
 loop-i-preserved c = (
-  below_more _ _ c.loop-i.invariant.0 (at_place c.args.line.now c.loop-i.i c.loop-i.inside _ c.loop-i-test.true c.loop-i.invariant.1 c.in_default.ensures),
+  below_more _ _ c.loop-i.invariant.0 (at_place c.args.line.now c.loop-i.i c.loop-i.inside _ c.loop-i-test.true c.loop-i.invariant.1 c.in_ok-check_at.ensures),
   c.in_run-inside.ensures ∙ sym (inside_step c.args.line.now c.loop-i.i c.loop-i-test.true),
 )

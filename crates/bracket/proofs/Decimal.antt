@@ -28,7 +28,7 @@ own =
 pub room : (run : List ℕ) (i : ℕ) → i < length run → length run ≤ 16 → list_all digit (take i run) ≡ true → read_on 0 (take i run) < 10 ^ 15
 room run i h few d = let l = length-take-le i run (omega arith) in digits_value_short own (take i run) 15 d (omega arith)
 
-within_both : (low high b : ℕ) → within low high b ≡ true → (low ≤ b) × (b ≤ high)
+pub within_both : (low high b : ℕ) → within low high b ≡ true → (low ≤ b) × (b ≤ high)
 within_both low high b h = grind (arith, nat_tests)
 
 both_within : (low high b : ℕ) → low ≤ b → b ≤ high → within low high b ≡ true
@@ -57,7 +57,7 @@ by_test run n true e h =
     let v : read_on 0 run ≡ n = cc in
     let small = value_small run p.2 p.1 in
     (sym (decimal-digits_value own run p.2 (omega arith) p.3 (below _ small)) ∙ ap decimal v, subst (λ m. m < 10 ^ 16) v small)
-by_test run n false e h = let z : ◌≡◌ {A = ℕ} 0 1 = cc in absurd (omega arith)
+by_test run n false e h = cc
 
 pub number_is : (run : List ℕ) (n : ℕ) → number_of run ≡ Some n → (run ≡ decimal n) × (n < 10 ^ 16)
 number_is run n h = by_test run n (is_number run) refl h

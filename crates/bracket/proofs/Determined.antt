@@ -17,7 +17,7 @@ use Rattle.bracket.proofs.Known.{form_is, form_reads}
 use Rattle.bracket.proofs.Neat.{text_clean, text_short}
 
 not_both : {A : Type 0} (o : Option A) (x : A) → o ≡ None → o ≡ Some x → ⊥
-not_both o x n s = let z : ◌≡◌ {A = ℕ} 0 1 = cc in omega arith
+not_both o x n s = cc
 
 not_clean : (line : List ℕ) (fault : WordFault) → FirstFault line fault → Clean line → ⊥
 not_clean line fault f c = not_both _ fault (c f.index f.within) f.here

@@ -1,7 +1,8 @@
 -- The text of a command has no word fault and at most 80 bytes.
-use Rattle.std.proofs.Common.{◌≡◌, ℕ, zero, suc, ◌+◌, ◌<◌, ◌≤◌, Bool, true, false, cond, ◌||◌, List, [], ◌∷◌, ◌++◌, length, Some, None, codes, decimal, sym, refl, ap, ◌∙◌, subst, arith, length-append}
+use Rattle.std.proofs.Common.{◌≡◌, ℕ, zero, suc, ◌+◌, ◌*◌, ◌<◌, ◌≤◌, Bool, true, false, cond, ◌||◌, List, [], ◌∷◌, ◌++◌, length, Some, None, codes, decimal, sym, refl, ap, ◌∙◌, subst, arith, length-append}
 use Rattle.std.proofs.lemmas.Fmt.{length-decimal-le, decimal_nonempty}
-use Rattle.std.proofs.lemmas.Bool.{and_parts, or_right}
+use Rattle.std.proofs.lemmas.Bool.{and_parts, and_from, or_left, or_right}
+use Rattle.std.proofs.lemmas.List.Elements.{recursion_from_All}
 use Rattle.std.specs.List.{prefix_len, list_all, AllByRecursion}
 use Rattle.bracket.specs.declared.words.Class.{Class}
 use Rattle.bracket.specs.declared.words.Class.TheVariants.{Open, Close, Space, Digit, Letter, Other}
@@ -13,12 +14,12 @@ use Rattle.bracket.specs.declared.commands.BoardText.{BoardText}
 use Rattle.bracket.specs.declared.commands.BoardText.TheVariants.{Single, Join}
 use Rattle.bracket.specs.declared.commands.Command.{Command}
 use Rattle.bracket.specs.declared.commands.Command.TheVariants.{Board, Component, Task, Use, Release, Done, Lock, Unlock, Tick, Runner, Budget, Ceiling, Holder, Bound, Assured}
-use Rattle.bracket.specs.Characters.{class_of, digit_class, letter_class, in_run, run_of, is_word, is_number}
+use Rattle.bracket.specs.Characters.{within, class_of, digit_class, letter_class, digit, letter, in_run, run_of, is_word, is_number}
 use Rattle.bracket.specs.Faults.{fit, wrong, wrong_at, Clean}
 use Rattle.bracket.specs.Texts.{item, kind_text, side_text, board_text, board_numbers, text, numbers, Writes}
-use Rattle.bracket.proofs.Decimal.{decimal_number}
-use Rattle.bracket.proofs.Parsing.{run_front, decimal_run}
-use Rattle.bracket.proofs.Known.{Small, side_flat}
+use Rattle.bracket.proofs.Decimal.{within_both, decimal_number}
+use Rattle.bracket.proofs.Parsing.{Small, run_front, decimal_run, items}
+use Rattle.bracket.proofs.Known.{side_flat}
 
 -- nothing is wrong in these bytes, wherever they stand
 abbrev Tidy : Bool → List ℕ → Type 0
@@ -34,7 +35,7 @@ within_run Close run column h = refl
 within_run Space run column h = refl
 within_run Digit run column h = refl
 within_run Letter run column h = refl
-within_run Other run column h = let z : ◌≡◌ {A = ℕ} 0 1 = cc in absurd (omega arith)
+within_run Other run column h = cc
 
 start_run : (class : Class) (inside : Bool) (run : List ℕ) (column : ℕ) → (digit_class class || letter_class class) ≡ true → fit run ≡ true → wrong class inside run column ≡ None
 start_run Open inside run column h f = refl
@@ -42,7 +43,7 @@ start_run Close inside run column h f = refl
 start_run Space inside run column h f = refl
 start_run Digit inside run column h f = ap (λ b. cond b None (Some (Run column))) (or_right inside (fit run) f)
 start_run Letter inside run column h f = ap (λ b. cond b None (Some (Run column))) (or_right inside (fit run) f)
-start_run Other inside run column h f = let z : ◌≡◌ {A = ℕ} 0 1 = cc in absurd (omega arith)
+start_run Other inside run column h f = cc
 
 tidy_inner : (run rest : List ℕ) → list_all in_run run ≡ true → Tidy true rest → Tidy true (run ++ rest)
 tidy_inner [] rest e t = t
@@ -97,60 +98,64 @@ neat_item : {most : ℕ} {rest : List ℕ} (n : ℕ) → Small n → Neat most r
 neat_item n h rest =
     neat_run (decimal n) 16 spaces (decimal_nonempty n (omega arith)) (length-decimal-le 16 n (omega arith) h (omega arith)) (decimal_run n h) (or_right (is_word (decimal n)) (is_number (decimal n)) (decimal_number n h)) rest
 
-neat_word : {most b : ℕ} {rest : List ℕ} (word : List ℕ) → Mark b → 0 < length word → list_all in_run word ≡ true → fit word ≡ true → Neat most rest → Neat (most + length word + 1) (b ∷ (word ++ rest))
-neat_word word m some e f n = neat_run word (length word) m some (omega arith) e f n
-
 neat_upto : {few most : ℕ} {bytes : List ℕ} → few ≤ most → Neat few bytes → Neat most bytes
 neat_upto h n = record { tidy = n.tidy; short = let s = n.short in omega arith; stops = n.stops }
+
+letters_run : (word : List ℕ) → list_all letter word ≡ true → list_all in_run word ≡ true
+letters_run [] e = refl
+letters_run (b ∷ word) e = let p = and_parts (letter b) (list_all letter word) e in and_from (in_run b) (list_all in_run word) (or_right (digit b) (letter b) p.0) (letters_run word p.1)
+
+neat_word : {most b : ℕ} {rest : List ℕ} (word : List ℕ) → Mark b → is_word word ≡ true → Neat most rest → Neat (most + 9 + 1) (b ∷ (word ++ rest))
+neat_word word m w n =
+    let p = and_parts (within 1 9 (length word)) (list_all letter word) w in
+    let l = within_both 1 9 (length word) p.0 in
+    neat_run word 9 m l.0 l.1 (letters_run word p.1) (or_left (is_word word) (is_number word) w) n
 
 close : Neat 1 (codes ")")
 close = neat_mark closes neat_end
 
-neat_kind : {most b : ℕ} {rest : List ℕ} (kind : Kind) → Mark b → Neat most rest → Neat (most + 9) (b ∷ (kind_text kind ++ rest))
-neat_kind Fixed m n = neat_upto (omega arith) (neat_word (codes "fixed") m (omega arith) refl refl n)
-neat_kind Deadline m n = neat_upto (omega arith) (neat_word (codes "deadline") m (omega arith) refl refl n)
+neat_kind : {most b : ℕ} {rest : List ℕ} (kind : Kind) → Mark b → Neat most rest → Neat (most + 9 + 1) (b ∷ (kind_text kind ++ rest))
+neat_kind Fixed m n = neat_word (codes "fixed") m refl n
+neat_kind Deadline m n = neat_word (codes "deadline") m refl n
 
-neat_side : {most : ℕ} {rest : List ℕ} (side : Side) → Small side.reach → Neat most rest → Neat (most + 28) (side_text side ++ rest)
+neat_side : {most : ℕ} {rest : List ℕ} (side : Side) → Small side.reach → Neat most rest → Neat (most + 29) (side_text side ++ rest)
 neat_side {most} {rest} side h n =
-    subst (λ l. Neat (most + 28) l) (sym (side_flat side rest)) (neat_upto (omega arith) (neat_mark spaces (neat_kind side.kind opens (neat_item side.reach h (neat_mark closes n)))))
+    subst (λ l. Neat (most + 29) l) (sym (side_flat side rest)) (neat_upto (omega arith) (neat_mark spaces (neat_kind side.kind opens (neat_item side.reach h (neat_mark closes n)))))
 
 neat_board : (board : BoardText) → AllByRecursion Small (board_numbers board) → Neat 70 (board_text board)
 neat_board (Single side) h = neat_upto (omega arith) (neat_kind side.kind spaces (neat_item side.reach h.0 close))
-neat_board (Join first second) h = neat_upto (omega arith) (neat_word (codes "join") spaces (omega arith) refl refl (neat_side first h.0 (neat_side second h.1.0 close)))
+neat_board (Join first second) h = neat_upto (omega arith) (neat_word (codes "join") spaces refl (neat_side first h.0 (neat_side second h.1.0 close)))
 
-neat_form : {most : ℕ} {rest : List ℕ} (word : List ℕ) → 0 < length word → length word ≤ 9 → list_all in_run word ≡ true → fit word ≡ true → most ≤ 70 → Neat most rest → Neat 80 (40 ∷ (word ++ rest))
-neat_form word some few e f l n = neat_upto (omega arith) (neat_run word 9 opens some few e f n)
+neat_items : {end : List ℕ} (ns : List ℕ) → AllByRecursion Small ns → Neat 2 end → Neat (17 * length ns + 2) (items ns end)
+neat_items [] h e = e
+neat_items (n ∷ ns) h e = neat_upto (omega arith) (neat_item n h.0 (neat_items ns h.1 e))
 
-one_neat : {a : ℕ} → Small a → Neat 18 (item a ++ codes ")")
-one_neat s = neat_item _ s close
+neat_form : {most : ℕ} {rest : List ℕ} (word : List ℕ) → is_word word ≡ true → most ≤ 70 → Neat most rest → Neat 80 (40 ∷ (word ++ rest))
+neat_form word w l n = neat_upto (omega arith) (neat_word word opens w n)
 
-two_neat : {a b : ℕ} → Small a → Small b → Neat 35 (item a ++ (item b ++ codes ")"))
-two_neat s t = neat_item _ s (one_neat t)
-
-three_neat : {a b c : ℕ} → Small a → Small b → Small c → Neat 52 (item a ++ (item b ++ (item c ++ codes ")")))
-three_neat s t u = neat_item _ s (two_neat t u)
+neat_numbers : (word ns : List ℕ) → is_word word ≡ true → length ns ≤ 3 → AllByRecursion Small ns → Neat 80 (40 ∷ (word ++ items ns (codes ")")))
+neat_numbers word ns w l h = neat_form word w (omega arith) (neat_items ns h (neat_upto (omega arith) close))
 
 text_neat : (command : Command) → AllByRecursion Small (numbers command) → Neat 80 (text command)
-text_neat (Board board) h = neat_form (codes "board") (omega arith) (omega arith) refl refl (omega arith) (neat_board board h)
+text_neat (Board board) h = neat_form (codes "board") refl (omega arith) (neat_board board h)
 text_neat (Component level budget period) h =
-    neat_form (codes "component") (omega arith) (omega arith) refl refl (omega arith)
-    (neat_upto {most = 70} (omega arith) (neat_item level h.0 (neat_mark spaces (neat_word (codes "budget") opens (omega arith) refl refl (neat_item budget h.1.0 (neat_item period h.1.1.0 (neat_mark closes close)))))))
-text_neat (Task component deadline) h = neat_form (codes "task") (omega arith) (omega arith) refl refl (omega arith) (two_neat h.0 h.1.0)
-text_neat (Use component resource access) h = neat_form (codes "use") (omega arith) (omega arith) refl refl (omega arith) (three_neat h.0 h.1.0 h.1.1.0)
-text_neat (Release component task) h = neat_form (codes "release") (omega arith) (omega arith) refl refl (omega arith) (two_neat h.0 h.1.0)
-text_neat (Done component task) h = neat_form (codes "done") (omega arith) (omega arith) refl refl (omega arith) (two_neat h.0 h.1.0)
-text_neat (Lock component task resource) h = neat_form (codes "lock") (omega arith) (omega arith) refl refl (omega arith) (three_neat h.0 h.1.0 h.1.1.0)
-text_neat (Unlock component task resource) h = neat_form (codes "unlock") (omega arith) (omega arith) refl refl (omega arith) (three_neat h.0 h.1.0 h.1.1.0)
-text_neat Tick h = neat_form (codes "tick") (omega arith) (omega arith) refl refl (omega arith) close
-text_neat Runner h = neat_form (codes "runner") (omega arith) (omega arith) refl refl (omega arith) close
-text_neat (Budget component) h = neat_form (codes "budget") (omega arith) (omega arith) refl refl (omega arith) (one_neat h.0)
-text_neat Ceiling h = neat_form (codes "ceiling") (omega arith) (omega arith) refl refl (omega arith) close
-text_neat (Holder resource) h = neat_form (codes "holder") (omega arith) (omega arith) refl refl (omega arith) (one_neat h.0)
-text_neat (Bound component) h = neat_form (codes "bound") (omega arith) (omega arith) refl refl (omega arith) (one_neat h.0)
-text_neat (Assured component) h = neat_form (codes "assured") (omega arith) (omega arith) refl refl (omega arith) (one_neat h.0)
+    neat_form (codes "component") refl (omega arith) (neat_item level h.0 (neat_mark spaces (neat_word (codes "budget") opens refl (neat_items (budget ∷ period ∷ []) h.1 (neat_mark closes close)))))
+text_neat (Task component deadline) h = neat_numbers (codes "task") (component ∷ deadline ∷ []) refl (omega arith) h
+text_neat (Use component resource access) h = neat_numbers (codes "use") (component ∷ resource ∷ access ∷ []) refl (omega arith) h
+text_neat (Release component task) h = neat_numbers (codes "release") (component ∷ task ∷ []) refl (omega arith) h
+text_neat (Done component task) h = neat_numbers (codes "done") (component ∷ task ∷ []) refl (omega arith) h
+text_neat (Lock component task resource) h = neat_numbers (codes "lock") (component ∷ task ∷ resource ∷ []) refl (omega arith) h
+text_neat (Unlock component task resource) h = neat_numbers (codes "unlock") (component ∷ task ∷ resource ∷ []) refl (omega arith) h
+text_neat Tick h = neat_numbers (codes "tick") [] refl (omega arith) h
+text_neat Runner h = neat_numbers (codes "runner") [] refl (omega arith) h
+text_neat (Budget component) h = neat_numbers (codes "budget") (component ∷ []) refl (omega arith) h
+text_neat Ceiling h = neat_numbers (codes "ceiling") [] refl (omega arith) h
+text_neat (Holder resource) h = neat_numbers (codes "holder") (resource ∷ []) refl (omega arith) h
+text_neat (Bound component) h = neat_numbers (codes "bound") (component ∷ []) refl (omega arith) h
+text_neat (Assured component) h = neat_numbers (codes "assured") (component ∷ []) refl (omega arith) h
 
 pub text_clean : (line : List ℕ) (command : Command) → Writes command line → Clean line
-text_clean line command h = subst (λ l. Clean l) (sym h.same) ((text_neat command h.small).tidy false 1)
+text_clean line command h = subst (λ l. Clean l) (sym h.same) ((text_neat command (recursion_from_All Small _ h.small)).tidy false 1)
 
 pub text_short : (line : List ℕ) (command : Command) → Writes command line → length line ≤ 80
-text_short line command h = subst (λ l. length l ≤ 80) (sym h.same) (text_neat command h.small).short
+text_short line command h = subst (λ l. length l ≤ 80) (sym h.same) (text_neat command (recursion_from_All Small _ h.small)).short

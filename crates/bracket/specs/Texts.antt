@@ -1,6 +1,6 @@
 -- Each command has one written form.
 use Rattle.std.specs.Prelude.{◌≡◌, ℕ, ◌^◌, ◌<◌, List, [], ◌∷◌, ◌++◌, codes, decimal}
-use Rattle.std.specs.List.{AllByRecursion}
+use Rattle.std.specs.List.{All}
 use Rattle.bracket.specs.declared.commands.Kind.{Kind}
 use Rattle.bracket.specs.declared.commands.Kind.TheVariants.{Fixed, Deadline}
 use Rattle.bracket.specs.declared.commands.Side.{Side}
@@ -66,4 +66,4 @@ numbers (Assured component) = component ∷ []
 -- the line is the text of the command, and no number in it has more than 16 digits
 pub record Writes (command : Command) (line : List ℕ) : Type 0 where
   pub same : line ≡ text command
-  pub small : AllByRecursion (λ n. n < 10 ^ 16) (numbers command)
+  pub small : All (λ n. n < 10 ^ 16) (numbers command)

@@ -1,7 +1,7 @@
 -- A run is a number exactly where it is what a number below 10 ^ 16 looks like in base ten.
-use Rattle.std.proofs.Common.{◌≡◌, ℕ, ◌^◌, ◌<◌, ◌≤◌, Bool, true, false, cond, not, ◌||◌, eqb, ◌⊎◌, List, length, get_or, take, Some, None, decimal, sym, refl, ap, ◌∙◌, subst, inl, inr, ⊎_elim, arith}
+use Rattle.std.proofs.Common.{◌≡◌, ℕ, ◌^◌, ◌<◌, ◌≤◌, Bool, true, false, cond, not, ◌||◌, eqb, ◌⊎◌, List, length, get_or, take, Some, None, decimal, sym, refl, ap, ◌∙◌, subst, inl, inr, arith, rules}
 use Rattle.std.specs.List.{list_all}
-use Rattle.std.proofs.lemmas.Bool.{and_parts, and_from, or_cases, or_left, or_right, eqb-true, eq-eqb, ne_eqb, not-true, not_from_false, both_ways, cases_eq}
+use Rattle.std.proofs.lemmas.Bool.{and_parts, and_from, or_left, or_right, eq-eqb, ne_eqb, not_from_false, cases_eq}
 use Rattle.std.proofs.lemmas.Bool.Decides.{nat_tests}
 use Rattle.std.proofs.lemmas.List.{length-take-le}
 use Rattle.std.proofs.lemmas.Str.Parse.{IsNumeralModel, numerals_by_fold, digits_value_short}
@@ -15,14 +15,7 @@ digit_from_range : (b : ℕ) → 48 ≤ b → b ≤ 57 → digit b ≡ true
 digit_from_range b l h = grind (arith, nat_tests)
 
 own : IsNumeralModel (λ ds. list_all digit ds ≡ true) (read_on 0)
-own =
-    numerals_by_fold _
-    (record {
-      empty = refl;
-      parts = λ c cs h. let p = and_parts (digit c) (list_all digit cs) h in (digit_range c p.0, p.1);
-      more = λ c cs r h. and_from (digit c) (list_all digit cs) (digit_from_range c r.0 r.1) h;
-    })
-    read_on (record { empty = λ n. refl; more = λ n c cs r. refl })
+own = numerals_by_fold _ (search (rules, digit_range, digit_from_range)) read_on (search rules)
 
 -- what less than 16 digits write leaves room for one more
 pub room : (run : List ℕ) (i : ℕ) → i < length run → length run ≤ 16 → list_all digit (take i run) ≡ true → read_on 0 (take i run) < 10 ^ 15
@@ -34,47 +27,37 @@ within_both low high b h = grind (arith, nat_tests)
 both_within : (low high b : ℕ) → low ≤ b → b ≤ high → within low high b ≡ true
 both_within low high b l h = grind (arith, nat_tests)
 
-below : (n : ℕ) → n < 10 ^ 16 → n < 2 ^ 64
-below n h = omega arith
-
 parts : (run : List ℕ) → is_number run ≡ true → (1 ≤ length run) × (length run ≤ 16) × (list_all digit run ≡ true) × (get_or run 0 0 ≡ 48 → length run ≡ 1)
 parts run h =
     let p = and_parts (within 1 16 (length run)) _ h in
     let q = and_parts (list_all digit run) _ p.1 in
-    let w = within_both 1 16 (length run) p.0 in (
-      w.0,
-      w.1,
-      q.0,
-      λ e. ⊎_elim (λ one. eqb-true (length run) 1 one) (λ lead. absurd (both_ways (eqb (get_or run 0 0) 48) (not-true _ lead) (eq-eqb (get_or run 0 0) 48 e))) (or_cases (eqb (length run) 1) (not (eqb (get_or run 0 0) 48)) q.1),
-    )
-
-value_small : (run : List ℕ) → list_all digit run ≡ true → length run ≤ 16 → read_on 0 run < 10 ^ 16
-value_small run d l = digits_value_short own run 16 d l
+    let w = within_both 1 16 (length run) p.0 in
+    (w.0, w.1, q.0, λ e. grind (arith, nat_tests, q.1))
 
 by_test : (run : List ℕ) (n : ℕ) (b : Bool) → is_number run ≡ b → cond b (Some (read_on 0 run)) None ≡ Some n → (run ≡ decimal n) × (n < 10 ^ 16)
 by_test run n true e h =
     let p = parts run e in
     let v : read_on 0 run ≡ n = cc in
-    let small = value_small run p.2 p.1 in
-    (sym (decimal-digits_value own run p.2 (omega arith) p.3 (below _ small)) ∙ ap decimal v, subst (λ m. m < 10 ^ 16) v small)
+    let small = digits_value_short own run 16 p.2 p.1 in
+    (sym (decimal-digits_value own run p.2 (omega arith) p.3 (omega arith)) ∙ ap decimal v, subst (λ m. m < 10 ^ 16) v small)
 by_test run n false e h = cc
 
 pub number_is : (run : List ℕ) (n : ℕ) → number_of run ≡ Some n → (run ≡ decimal n) × (n < 10 ^ 16)
 number_is run n h = by_test run n (is_number run) refl h
 
 pub decimal_digits : (n : ℕ) → n < 10 ^ 16 → list_all digit (decimal n) ≡ true
-decimal_digits n h = digits_decimal own n (below n h)
+decimal_digits n h = digits_decimal own n (omega arith)
 
 one_zero : (n : ℕ) → n < 10 ^ 16 → (n ≡ 0) ⊎ (n ≡ 0 → ⊥) → (eqb (length (decimal n)) 1 || not (eqb (get_or (decimal n) 0 0) 48)) ≡ true
 one_zero n h (inl e) = or_left _ _ (eq-eqb _ 1 (ap length (decimal_digit n (omega arith))))
-one_zero n h (inr ne) = let f = first_decimal n (omega arith) (below n h) in or_right _ _ (not_from_false _ (ne_eqb (get_or (decimal n) 0 0) 48 (λ e. omega arith)))
+one_zero n h (inr ne) = let f = first_decimal n (omega arith) (omega arith) in or_right _ _ (not_from_false _ (ne_eqb (get_or (decimal n) 0 0) 48 (λ e. omega arith)))
 
 pub decimal_number : (n : ℕ) → n < 10 ^ 16 → is_number (decimal n) ≡ true
 decimal_number n h =
-    let s = decimal_nonempty n (below n h) in
-    let l = length-decimal-le 16 n (omega arith) h (below n h) in
+    let s = decimal_nonempty n (omega arith) in
+    let l = length-decimal-le 16 n (omega arith) h (omega arith) in
     and_from (within 1 16 (length (decimal n))) _ (both_within 1 16 (length (decimal n)) (omega arith) l) (and_from (list_all digit (decimal n)) _ (decimal_digits n h) (one_zero n h (cases_eq n 0)))
 
 pub number_decimal : (n : ℕ) → n < 10 ^ 16 → number_of (decimal n) ≡ Some n
 number_decimal n h =
-    ap (λ b. cond b (Some (read_on 0 (decimal n))) None) (decimal_number n h) ∙ ap Some (digits_value-decimal own n (below n h))
+    ap (λ b. cond b (Some (read_on 0 (decimal n))) None) (decimal_number n h) ∙ ap Some (digits_value-decimal own n (omega arith))

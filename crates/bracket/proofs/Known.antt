@@ -14,9 +14,9 @@ use Rattle.bracket.specs.declared.commands.BoardText.TheVariants.{Single, Join}
 use Rattle.bracket.specs.declared.commands.Command.{Command}
 use Rattle.bracket.specs.declared.commands.Command.TheVariants.{Board, Component, Task, Use, Release, Done, Lock, Unlock, Tick, Runner, Budget, Ceiling, Holder, Bound, Assured}
 use Rattle.bracket.specs.Characters.{in_run, run_of, past_run}
-use Rattle.bracket.specs.Items.{and_then, after, number_item, number_items, kind_of, side_item, join_items, single_items, board_items, component_items, draft_form, call_form, question_form, form_of}
+use Rattle.bracket.specs.Items.{and_then, after, number_item, number_items, numbers_form, of_one, of_two, of_three, kind_of, side_item, join_items, single_items, board_items, component_items, draft_form, call_form, question_form, any_form, form_of}
 use Rattle.bracket.specs.Texts.{item, kind_text, side_text, board_text, board_numbers, text, numbers, Writes}
-use Rattle.bracket.proofs.Parsing.{Small, and_then_lem, taken, after_is, same_text, run_front, run_rest, number_item_is, number_item_reads, items, numbers_are, numbers_read}
+use Rattle.bracket.proofs.Parsing.{Small, and_then_lem, taken, after_is, same_text, run_front, run_rest, number_item_is, number_item_reads, items, items_stop, numbers_are, numbers_read}
 
 -- what is true of all the lists of n numbers
 abbrev Each : ℕ → (List ℕ → Type 0) → Type 0
@@ -113,82 +113,76 @@ board_reads (Single side) h =
 board_reads (Join first second) h = join_reads first second h.0 h.1.0
 
 -- what a word and the items after it say
-abbrev Says : Command → List ℕ → List ℕ → Type 0
+abbrev pub Says : Command → List ℕ → List ℕ → Type 0
 Says command word rest = Writes command (40 ∷ (word ++ rest))
 
-said : (command : Command) (name word rest : List ℕ) → word ≡ name → 40 ∷ (name ++ rest) ≡ text command → AllByRecursion Small (numbers command) → Says command word rest
-said command name word rest e same small = record { same = ap (λ w. 40 ∷ (w ++ rest)) e ∙ same; small = All-from_recursion Small _ small }
+module _ (word rest : List ℕ) (command : Command) where
+  said : (name : List ℕ) (it : Command) → word ≡ name → it ≡ command → 40 ∷ (name ++ rest) ≡ text it → AllByRecursion Small (numbers it) → Says command word rest
+  said name it e k same small = subst (λ c. Says c word rest) k (record { same = ap (λ w. 40 ∷ (w ++ rest)) e ∙ same; small = All-from_recursion Small _ small })
 
--- one test of a word, and the tests after it
-either : (word name rest : List ℕ) (command : Command) (x y : Option Command) → (word ≡ name → x ≡ Some command → Says command word rest) → (y ≡ Some command → Says command word rest)
-    → (same : Bool) → bytes_eq word name ≡ same → cond same x y ≡ Some command → Says command word rest
-either word name rest command x y f g true e h = f (same_text word name e) h
-either word name rest command x y f g false e h = g h
+  -- one test of a word, and the tests after it
+  either : (name : List ℕ) (x y : Option Command) → (word ≡ name → x ≡ Some command → Says command word rest) → (y ≡ Some command → Says command word rest)
+      → (same : Bool) → bytes_eq word name ≡ same → cond same x y ≡ Some command → Says command word rest
+  either name x y f g true e h = f (same_text word name e) h
+  either name x y f g false e h = g h
 
-bare : (word name rest : List ℕ) (it command : Command) (y : Option Command) → 40 ∷ (name ++ codes ")") ≡ text it → AllByRecursion Small (numbers it) → (y ≡ Some command → Says command word rest)
-    → (same : Bool) → (bytes_eq word name && bytes_eq rest (codes ")")) ≡ same → cond same (Some it) y ≡ Some command → Says command word rest
-bare word name rest it command y t s g true e h =
-    let p = and_parts (bytes_eq word name) (bytes_eq rest (codes ")")) e in
-    let k : it ≡ command = cc in
-    subst (λ c. Says c word rest) k (said it name word rest (same_text word name p.0) (ap (λ b. 40 ∷ (name ++ b)) (same_text rest (codes ")") p.1) ∙ t) s)
-bare word name rest it command y t s g false e h = g h
+  bare : (name : List ℕ) (it : Command) (y : Option Command) → 40 ∷ (name ++ codes ")") ≡ text it → AllByRecursion Small (numbers it) → (y ≡ Some command → Says command word rest)
+      → (same : Bool) → (bytes_eq word name && bytes_eq rest (codes ")")) ≡ same → cond same (Some it) y ≡ Some command → Says command word rest
+  bare name it y t s g true e h =
+      let p = and_parts (bytes_eq word name) (bytes_eq rest (codes ")")) e in
+      said name it (same_text word name p.0) (cc) (ap (λ b. 40 ∷ (name ++ b)) (same_text rest (codes ")") p.1) ∙ t) s
+  bare name it y t s g false e h = g h
 
--- a form of numbers alone
-number_form : (name word rest : List ℕ) (n : ℕ) (make : List ℕ → Command) (command : Command) → Each n (λ ns. (text (make ns) ≡ 40 ∷ (name ++ items ns (codes ")"))) × (numbers (make ns) ≡ ns))
-    → word ≡ name → and_then (number_items n (codes ")") rest) (λ ns. Some (make ns)) ≡ Some command → Says command word rest
-number_form name word rest n make command own e h =
-    let a = and_then_lem (number_items n (codes ")") rest) _ command h in
-    let p = numbers_are n (codes ")") rest a.value a.found in
-    let m = each n (λ ns. (text (make ns) ≡ 40 ∷ (name ++ items ns (codes ")"))) × (numbers (make ns) ≡ ns)) own a.value p.2 in
-    let k : make a.value ≡ command = cc in
-    subst (λ c. Says c word rest) k (said (make a.value) name word rest e (ap (λ i. 40 ∷ (name ++ i)) p.0 ∙ sym m.0) (subst (AllByRecursion Small) (sym m.1) p.1))
+  -- a form of numbers alone, and the tests after it
+  numbered : (name : List ℕ) (n : ℕ) (make : List ℕ → Command) (y : Option Command) → Each n (λ ns. (text (make ns) ≡ 40 ∷ (name ++ items ns (codes ")"))) × (numbers (make ns) ≡ ns)) → (y ≡ Some command → Says command word rest)
+      → (same : Bool) → bytes_eq word name ≡ same → cond same (numbers_form n make rest) y ≡ Some command → Says command word rest
+  numbered name n make y own = either name (numbers_form n make rest) y (λ e h.
+      let a = and_then_lem (number_items n (codes ")") rest) _ command h in
+      let p = numbers_are n (codes ")") rest a.value a.found in
+      let m = each n (λ ns. (text (make ns) ≡ 40 ∷ (name ++ items ns (codes ")"))) × (numbers (make ns) ≡ ns)) own a.value p.2 in
+      said name (make a.value) e (cc) (ap (λ i. 40 ∷ (name ++ i)) p.0 ∙ sym m.0) (subst (AllByRecursion Small) (sym m.1) p.1))
 
-board_form : (word rest : List ℕ) (command : Command) → word ≡ codes "board" → and_then (board_items rest) (λ board. Some (Board board)) ≡ Some command → Says command word rest
-board_form word rest command e h =
-    let a = and_then_lem (board_items rest) _ command h in
-    let p = board_is rest a.value a.found in
-    let k : Board a.value ≡ command = cc in
-    subst (λ c. Says c word rest) k (said (Board a.value) (codes "board") word rest e (ap (λ i. codes "(board" ++ i) p.0) p.1)
+  board_form : word ≡ codes "board" → and_then (board_items rest) (λ board. Some (Board board)) ≡ Some command → Says command word rest
+  board_form e h =
+      let a = and_then_lem (board_items rest) _ command h in
+      let p = board_is rest a.value a.found in
+      said (codes "board") (Board a.value) e (cc) (ap (λ i. codes "(board" ++ i) p.0) p.1
 
-component_form : (word rest : List ℕ) (command : Command) → word ≡ codes "component" → component_items rest ≡ Some command → Says command word rest
-component_form word rest command e h =
-    let level = and_then_lem (number_item rest) _ command h in
-    let inner = and_then_lem (after (codes " (budget") level.value.1) _ command level.gives in
-    let two = and_then_lem (number_items 2 (codes "))") inner.value) _ command inner.gives in
-    let m = number_item_is rest level.value level.found in
-    let n = numbers_are 2 (codes "))") inner.value two.value two.found in
-    let whole = m.0 ∙ ap (λ l. item level.value.0 ++ l) (after_is (codes " (budget") level.value.1 inner.value inner.found ∙ ap (λ l. codes " (budget" ++ l) n.0) in
-    let make : List ℕ → Command = λ ns. Component level.value.0 (slice_index ns 0) (slice_index ns 1) in
-    let own = each 2 (λ ns. (text (make ns) ≡ codes "(component" ++ (item level.value.0 ++ (codes " (budget" ++ items ns (codes "))")))) × (numbers (make ns) ≡ level.value.0 ∷ ns)) (λ a b. (refl, refl)) two.value n.2 in
-    let k : make two.value ≡ command = cc in
-    subst (λ c. Says c word rest) k (said (make two.value) (codes "component") word rest e (ap (λ i. codes "(component" ++ i) whole ∙ sym own.0) (subst (AllByRecursion Small) (sym own.1) (m.1, n.1)))
+  component_form : word ≡ codes "component" → component_items rest ≡ Some command → Says command word rest
+  component_form e h =
+      let level = and_then_lem (number_item rest) _ command h in
+      let inner = and_then_lem (after (codes " (budget") level.value.1) _ command level.gives in
+      let two = and_then_lem (number_items 2 (codes "))") inner.value) _ command inner.gives in
+      let m = number_item_is rest level.value level.found in
+      let n = numbers_are 2 (codes "))") inner.value two.value two.found in
+      let whole = m.0 ∙ ap (λ l. item level.value.0 ++ l) (after_is (codes " (budget") level.value.1 inner.value inner.found ∙ ap (λ l. codes " (budget" ++ l) n.0) in
+      let make : List ℕ → Command = of_two (Component level.value.0) in
+      let own = each 2 (λ ns. (text (make ns) ≡ codes "(component" ++ (item level.value.0 ++ (codes " (budget" ++ items ns (codes "))")))) × (numbers (make ns) ≡ level.value.0 ∷ ns)) (λ a b. (refl, refl)) two.value n.2 in
+      said (codes "component") (make two.value) e (cc) (ap (λ i. codes "(component" ++ i) whole ∙ sym own.0) (subst (AllByRecursion Small) (sym own.1) (m.1, n.1))
 
-nothing_said : (word items : List ℕ) (command : Command) → None ≡ Some command → Says command word items
-nothing_said word items command h = cc
+  draft_is : draft_form word rest ≡ Some command → Says command word rest
+  draft_is =
+      either (codes "board") _ _ board_form
+      (either (codes "component") _ _ component_form
+      (numbered (codes "task") 2 (of_two Task) _ (λ a b. (refl, refl))
+      (numbered (codes "use") 3 (of_three Use) _ (λ a b c. (refl, refl)) (λ h. cc) _ refl) _ refl) _ refl) _ refl
 
-draft_is : (word rest : List ℕ) (command : Command) → draft_form word rest ≡ Some command → Says command word rest
-draft_is word rest command =
-    either word (codes "board") rest command _ _ (board_form word rest command)
-    (either word (codes "component") rest command _ _ (component_form word rest command)
-    (either word (codes "task") rest command _ _ (number_form (codes "task") word rest 2 (λ a. Task (slice_index a 0) (slice_index a 1)) command (λ a b. (refl, refl)))
-    (either word (codes "use") rest command _ _ (number_form (codes "use") word rest 3 (λ a. Use (slice_index a 0) (slice_index a 1) (slice_index a 2)) command (λ a b c. (refl, refl))) (nothing_said word rest command) _ refl) _ refl) _ refl) _ refl
+  call_is : call_form word rest ≡ Some command → Says command word rest
+  call_is =
+      numbered (codes "release") 2 (of_two Release) _ (λ a b. (refl, refl))
+      (numbered (codes "done") 2 (of_two Done) _ (λ a b. (refl, refl))
+      (numbered (codes "lock") 3 (of_three Lock) _ (λ a b c. (refl, refl))
+      (numbered (codes "unlock") 3 (of_three Unlock) _ (λ a b c. (refl, refl))
+      (bare (codes "tick") Tick _ refl tt (λ h. cc) _ refl) _ refl) _ refl) _ refl) _ refl
 
-call_is : (word rest : List ℕ) (command : Command) → call_form word rest ≡ Some command → Says command word rest
-call_is word rest command =
-    either word (codes "release") rest command _ _ (number_form (codes "release") word rest 2 (λ a. Release (slice_index a 0) (slice_index a 1)) command (λ a b. (refl, refl)))
-    (either word (codes "done") rest command _ _ (number_form (codes "done") word rest 2 (λ a. Done (slice_index a 0) (slice_index a 1)) command (λ a b. (refl, refl)))
-    (either word (codes "lock") rest command _ _ (number_form (codes "lock") word rest 3 (λ a. Lock (slice_index a 0) (slice_index a 1) (slice_index a 2)) command (λ a b c. (refl, refl)))
-    (either word (codes "unlock") rest command _ _ (number_form (codes "unlock") word rest 3 (λ a. Unlock (slice_index a 0) (slice_index a 1) (slice_index a 2)) command (λ a b c. (refl, refl)))
-    (bare word (codes "tick") rest Tick command _ refl tt (nothing_said word rest command) _ refl) _ refl) _ refl) _ refl) _ refl
-
-question_is : (word rest : List ℕ) (command : Command) → question_form word rest ≡ Some command → Says command word rest
-question_is word rest command =
-    bare word (codes "runner") rest Runner command _ refl tt
-    (bare word (codes "ceiling") rest Ceiling command _ refl tt
-    (either word (codes "budget") rest command _ _ (number_form (codes "budget") word rest 1 (λ a. Budget (slice_index a 0)) command (λ a. (refl, refl)))
-    (either word (codes "holder") rest command _ _ (number_form (codes "holder") word rest 1 (λ a. Holder (slice_index a 0)) command (λ a. (refl, refl)))
-    (either word (codes "bound") rest command _ _ (number_form (codes "bound") word rest 1 (λ a. Bound (slice_index a 0)) command (λ a. (refl, refl)))
-    (either word (codes "assured") rest command _ _ (number_form (codes "assured") word rest 1 (λ a. Assured (slice_index a 0)) command (λ a. (refl, refl))) (nothing_said word rest command) _ refl) _ refl) _ refl) _ refl) _ refl) _ refl
+  question_is : question_form word rest ≡ Some command → Says command word rest
+  question_is =
+      bare (codes "runner") Runner _ refl tt
+      (bare (codes "ceiling") Ceiling _ refl tt
+      (numbered (codes "budget") 1 (of_one Budget) _ (λ a. (refl, refl))
+      (numbered (codes "holder") 1 (of_one Holder) _ (λ a. (refl, refl))
+      (numbered (codes "bound") 1 (of_one Bound) _ (λ a. (refl, refl))
+      (numbered (codes "assured") 1 (of_one Assured) _ (λ a. (refl, refl)) (λ h. cc) _ refl) _ refl) _ refl) _ refl) _ refl) _ refl
 
 or_else_lem : {A : Type 0} (x y : Option A) (a : A) → option_or x y ≡ Some a → (x ≡ Some a) ⊎ (y ≡ Some a)
 or_else_lem None y a h = inr h
@@ -205,27 +199,21 @@ form_is line command h =
     subst (λ l. Writes command l) e says
 
 -- what is written is read
-form_at : (word items : List ℕ) → list_all in_run word ≡ true → prefix_len in_run items ≡ 0 → form_of (40 ∷ (word ++ items)) ≡ option_or (draft_form word items) (option_or (call_form word items) (question_form word items))
-form_at word items e l =
-    ap (λ w. option_or (draft_form w (past_run (word ++ items))) (option_or (call_form w (past_run (word ++ items))) (question_form w (past_run (word ++ items))))) (run_front word items e l)
-    ∙ ap (λ i. option_or (draft_form word i) (option_or (call_form word i) (question_form word i))) (run_rest word items e l)
+form_at : (word items : List ℕ) → list_all in_run word ≡ true → prefix_len in_run items ≡ 0 → form_of (40 ∷ (word ++ items)) ≡ any_form word items
+form_at word items e l = ap (λ w. any_form w (past_run (word ++ items))) (run_front word items e l) ∙ ap (any_form word) (run_rest word items e l)
 
-module _ (word items : List ℕ) (command : Command) (e : list_all in_run word ≡ true) (l : prefix_len in_run items ≡ 0) where
-  draft_reads : draft_form word items ≡ Some command → form_of (40 ∷ (word ++ items)) ≡ Some command
-  draft_reads d = form_at word items e l ∙ ap (λ o. option_or o (option_or (call_form word items) (question_form word items))) d
-
-  call_reads : draft_form word items ≡ None → call_form word items ≡ Some command → form_of (40 ∷ (word ++ items)) ≡ Some command
-  call_reads d c = form_at word items e l ∙ ap (λ o. option_or o (option_or (call_form word items) (question_form word items))) d ∙ ap (λ o. option_or o (question_form word items)) c
-
-  question_reads : draft_form word items ≡ None → call_form word items ≡ None → question_form word items ≡ Some command → form_of (40 ∷ (word ++ items)) ≡ Some command
-  question_reads d c q = form_at word items e l ∙ ap (λ o. option_or o (option_or (call_form word items) (question_form word items))) d ∙ ap (λ o. option_or o (question_form word items)) c ∙ q
+-- a form of the first group or the second, where the later groups find none
+early : (o : Option Command) (command : Command) → o ≡ Some command → option_or o None ≡ Some command
+early o command h = ap (λ x. option_or x None) h
 
 board_stops : (board : BoardText) → prefix_len in_run (board_text board) ≡ 0
 board_stops (Single side) = refl
 board_stops (Join first second) = refl
 
-made : (make : List ℕ → Command) (ns : List ℕ) → AllByRecursion Small ns → and_then (number_items (length ns) (codes ")") (items ns (codes ")"))) (λ a. Some (make a)) ≡ Some (make ns)
-made make ns s = ap (λ o. and_then o (λ a. Some (make a))) (numbers_read ns (codes ")") s refl)
+reads : (word ns : List ℕ) (make : List ℕ → Command) → list_all in_run word ≡ true
+    → ((rest : List ℕ) → numbers_form (length ns) make rest ≡ Some (make ns) → any_form word rest ≡ Some (make ns))
+    → AllByRecursion Small ns → form_of (40 ∷ (word ++ items ns (codes ")"))) ≡ Some (make ns)
+reads word ns make e f s = form_at word (items ns (codes ")")) e (items_stop ns (codes ")") refl) ∙ f _ (ap (λ o. and_then o (λ a. Some (make a))) (numbers_read ns (codes ")") s refl))
 
 component_made : (level budget period : ℕ) → AllByRecursion Small (level ∷ budget ∷ period ∷ []) → component_items (item level ++ (codes " (budget" ++ (item budget ++ (item period ++ codes "))")))) ≡ Some (Component level budget period)
 component_made level budget period s =
@@ -234,22 +222,22 @@ component_made level budget period s =
     ∙ ap (λ o. and_then o (λ b. Some (Component level (slice_index b 0) (slice_index b 1)))) (numbers_read (budget ∷ period ∷ []) (codes "))") s.1 refl)
 
 reads_text : (command : Command) → AllByRecursion Small (numbers command) → form_of (text command) ≡ Some command
-reads_text (Board board) h = draft_reads (codes "board") (board_text board) (Board board) refl (board_stops board) (ap (λ o. and_then o (λ b. Some (Board b))) (board_reads board h))
+reads_text (Board board) h = form_at (codes "board") (board_text board) refl (board_stops board) ∙ early _ _ (ap (λ o. and_then o (λ b. Some (Board b))) (board_reads board h))
 reads_text (Component level budget period) h =
-    draft_reads (codes "component") (item level ++ (codes " (budget" ++ (item budget ++ (item period ++ codes "))")))) (Component level budget period) refl refl (component_made level budget period h)
-reads_text (Task component deadline) h = draft_reads (codes "task") (items (component ∷ deadline ∷ []) (codes ")")) (Task component deadline) refl refl (made (λ a. Task (slice_index a 0) (slice_index a 1)) (component ∷ deadline ∷ []) h)
-reads_text (Use component resource access) h = draft_reads (codes "use") (items (component ∷ resource ∷ access ∷ []) (codes ")")) (Use component resource access) refl refl (made (λ a. Use (slice_index a 0) (slice_index a 1) (slice_index a 2)) (component ∷ resource ∷ access ∷ []) h)
-reads_text (Release component task) h = call_reads (codes "release") (items (component ∷ task ∷ []) (codes ")")) (Release component task) refl refl refl (made (λ a. Release (slice_index a 0) (slice_index a 1)) (component ∷ task ∷ []) h)
-reads_text (Done component task) h = call_reads (codes "done") (items (component ∷ task ∷ []) (codes ")")) (Done component task) refl refl refl (made (λ a. Done (slice_index a 0) (slice_index a 1)) (component ∷ task ∷ []) h)
-reads_text (Lock component task resource) h = call_reads (codes "lock") (items (component ∷ task ∷ resource ∷ []) (codes ")")) (Lock component task resource) refl refl refl (made (λ a. Lock (slice_index a 0) (slice_index a 1) (slice_index a 2)) (component ∷ task ∷ resource ∷ []) h)
-reads_text (Unlock component task resource) h = call_reads (codes "unlock") (items (component ∷ task ∷ resource ∷ []) (codes ")")) (Unlock component task resource) refl refl refl (made (λ a. Unlock (slice_index a 0) (slice_index a 1) (slice_index a 2)) (component ∷ task ∷ resource ∷ []) h)
-reads_text Tick h = call_reads (codes "tick") (codes ")") Tick refl refl refl refl
-reads_text Runner h = question_reads (codes "runner") (codes ")") Runner refl refl refl refl refl
-reads_text (Budget component) h = question_reads (codes "budget") (items (component ∷ []) (codes ")")) (Budget component) refl refl refl refl (made (λ a. Budget (slice_index a 0)) (component ∷ []) h)
-reads_text Ceiling h = question_reads (codes "ceiling") (codes ")") Ceiling refl refl refl refl refl
-reads_text (Holder resource) h = question_reads (codes "holder") (items (resource ∷ []) (codes ")")) (Holder resource) refl refl refl refl (made (λ a. Holder (slice_index a 0)) (resource ∷ []) h)
-reads_text (Bound component) h = question_reads (codes "bound") (items (component ∷ []) (codes ")")) (Bound component) refl refl refl refl (made (λ a. Bound (slice_index a 0)) (component ∷ []) h)
-reads_text (Assured component) h = question_reads (codes "assured") (items (component ∷ []) (codes ")")) (Assured component) refl refl refl refl (made (λ a. Assured (slice_index a 0)) (component ∷ []) h)
+    form_at (codes "component") (item level ++ (codes " (budget" ++ (item budget ++ (item period ++ codes "))")))) refl refl ∙ early _ _ (component_made level budget period h)
+reads_text (Task component deadline) h = reads (codes "task") (component ∷ deadline ∷ []) (of_two Task) refl (λ rest. early _ _) h
+reads_text (Use component resource access) h = reads (codes "use") (component ∷ resource ∷ access ∷ []) (of_three Use) refl (λ rest. early _ _) h
+reads_text (Release component task) h = reads (codes "release") (component ∷ task ∷ []) (of_two Release) refl (λ rest. early _ _) h
+reads_text (Done component task) h = reads (codes "done") (component ∷ task ∷ []) (of_two Done) refl (λ rest. early _ _) h
+reads_text (Lock component task resource) h = reads (codes "lock") (component ∷ task ∷ resource ∷ []) (of_three Lock) refl (λ rest. early _ _) h
+reads_text (Unlock component task resource) h = reads (codes "unlock") (component ∷ task ∷ resource ∷ []) (of_three Unlock) refl (λ rest. early _ _) h
+reads_text Tick h = form_at (codes "tick") (codes ")") refl refl
+reads_text Runner h = form_at (codes "runner") (codes ")") refl refl
+reads_text (Budget component) h = reads (codes "budget") (component ∷ []) (of_one Budget) refl (λ rest f. f) h
+reads_text Ceiling h = form_at (codes "ceiling") (codes ")") refl refl
+reads_text (Holder resource) h = reads (codes "holder") (resource ∷ []) (of_one Holder) refl (λ rest f. f) h
+reads_text (Bound component) h = reads (codes "bound") (component ∷ []) (of_one Bound) refl (λ rest f. f) h
+reads_text (Assured component) h = reads (codes "assured") (component ∷ []) (of_one Assured) refl (λ rest f. f) h
 
 pub form_reads : (line : List ℕ) (command : Command) → Writes command line → form_of line ≡ Some command
 form_reads line command h = ap form_of h.same ∙ reads_text command (recursion_from_All Small _ h.small)

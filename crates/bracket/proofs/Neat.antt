@@ -1,7 +1,7 @@
 -- The text of a command has no word fault and at most 80 bytes.
 use Rattle.std.proofs.Common.{◌≡◌, ℕ, zero, suc, ◌+◌, ◌*◌, ◌<◌, ◌≤◌, Bool, true, false, cond, ◌||◌, List, [], ◌∷◌, ◌++◌, length, Some, None, codes, decimal, sym, refl, ap, ◌∙◌, subst, arith, length-append}
 use Rattle.std.proofs.lemmas.Fmt.{length-decimal-le, decimal_nonempty}
-use Rattle.std.proofs.lemmas.Bool.{and_parts, and_from, or_left, or_right}
+use Rattle.std.proofs.lemmas.Bool.{and_parts, or_left, or_right}
 use Rattle.std.proofs.lemmas.List.Elements.{recursion_from_All}
 use Rattle.std.specs.List.{prefix_len, list_all, AllByRecursion}
 use Rattle.bracket.specs.declared.words.Class.{Class}
@@ -18,7 +18,7 @@ use Rattle.bracket.specs.Characters.{within, class_of, digit_class, letter_class
 use Rattle.bracket.specs.Faults.{fit, wrong, wrong_at, Clean}
 use Rattle.bracket.specs.Texts.{item, kind_text, side_text, board_text, board_numbers, text, numbers, Writes}
 use Rattle.bracket.proofs.Decimal.{within_both, decimal_number}
-use Rattle.bracket.proofs.Parsing.{Small, run_front, decimal_run, items}
+use Rattle.bracket.proofs.Parsing.{Small, run_front, decimal_run, all_in_run, items}
 use Rattle.bracket.proofs.Known.{side_flat}
 
 -- nothing is wrong in these bytes, wherever they stand
@@ -29,33 +29,25 @@ tidy_cons : (inside : Bool) (b : ℕ) (bytes : List ℕ) → ((column : ℕ) →
 tidy_cons inside b bytes here rest column zero h = here column
 tidy_cons inside b bytes here rest column (suc i) h = rest (column + 1) i (omega arith)
 
-within_run : (class : Class) (run : List ℕ) (column : ℕ) → (digit_class class || letter_class class) ≡ true → wrong class true run column ≡ None
-within_run Open run column h = refl
-within_run Close run column h = refl
-within_run Space run column h = refl
-within_run Digit run column h = refl
-within_run Letter run column h = refl
-within_run Other run column h = cc
-
-start_run : (class : Class) (inside : Bool) (run : List ℕ) (column : ℕ) → (digit_class class || letter_class class) ≡ true → fit run ≡ true → wrong class inside run column ≡ None
-start_run Open inside run column h f = refl
-start_run Close inside run column h f = refl
-start_run Space inside run column h f = refl
-start_run Digit inside run column h f = ap (λ b. cond b None (Some (Run column))) (or_right inside (fit run) f)
-start_run Letter inside run column h f = ap (λ b. cond b None (Some (Run column))) (or_right inside (fit run) f)
-start_run Other inside run column h f = cc
+in_class : (class : Class) (inside : Bool) (run : List ℕ) (column : ℕ) → (digit_class class || letter_class class) ≡ true → (inside || fit run) ≡ true → wrong class inside run column ≡ None
+in_class Open inside run column h f = refl
+in_class Close inside run column h f = refl
+in_class Space inside run column h f = refl
+in_class Digit inside run column h f = ap (λ b. cond b None (Some (Run column))) f
+in_class Letter inside run column h f = ap (λ b. cond b None (Some (Run column))) f
+in_class Other inside run column h f = cc
 
 tidy_inner : (run rest : List ℕ) → list_all in_run run ≡ true → Tidy true rest → Tidy true (run ++ rest)
 tidy_inner [] rest e t = t
 tidy_inner (b ∷ run) rest e t =
     let p = and_parts (in_run b) (list_all in_run run) e in
-    tidy_cons true b (run ++ rest) (λ column. within_run (class_of b) _ column p.0) (subst (λ x. Tidy x (run ++ rest)) (sym p.0) (tidy_inner run rest p.1 t))
+    tidy_cons true b (run ++ rest) (λ column. in_class (class_of b) true _ column p.0 refl) (subst (λ x. Tidy x (run ++ rest)) (sym p.0) (tidy_inner run rest p.1 t))
 
 tidy_run : (inside : Bool) (run rest : List ℕ) → 0 < length run → list_all in_run run ≡ true → fit run ≡ true → prefix_len in_run rest ≡ 0 → Tidy true rest → Tidy inside (run ++ rest)
 tidy_run inside [] rest some e f l t = absurd (omega arith)
 tidy_run inside (b ∷ run) rest some e f l t =
     let p = and_parts (in_run b) (list_all in_run run) e in
-    tidy_cons inside b (run ++ rest) (λ column. start_run (class_of b) inside _ column p.0 (ap fit (run_front (b ∷ run) rest e l) ∙ f)) (subst (λ x. Tidy x (run ++ rest)) (sym p.0) (tidy_inner run rest p.1 t))
+    tidy_cons inside b (run ++ rest) (λ column. in_class (class_of b) inside _ column p.0 (or_right inside _ (ap fit (run_front (b ∷ run) rest e l) ∙ f))) (subst (λ x. Tidy x (run ++ rest)) (sym p.0) (tidy_inner run rest p.1 t))
 
 -- bytes that may follow a run: no word fault, and at most so many
 record Neat (most : ℕ) (bytes : List ℕ) : Type 0 where
@@ -101,15 +93,11 @@ neat_item n h rest =
 neat_upto : {few most : ℕ} {bytes : List ℕ} → few ≤ most → Neat few bytes → Neat most bytes
 neat_upto h n = record { tidy = n.tidy; short = let s = n.short in omega arith; stops = n.stops }
 
-letters_run : (word : List ℕ) → list_all letter word ≡ true → list_all in_run word ≡ true
-letters_run [] e = refl
-letters_run (b ∷ word) e = let p = and_parts (letter b) (list_all letter word) e in and_from (in_run b) (list_all in_run word) (or_right (digit b) (letter b) p.0) (letters_run word p.1)
-
 neat_word : {most b : ℕ} {rest : List ℕ} (word : List ℕ) → Mark b → is_word word ≡ true → Neat most rest → Neat (most + 9 + 1) (b ∷ (word ++ rest))
 neat_word word m w n =
     let p = and_parts (within 1 9 (length word)) (list_all letter word) w in
     let l = within_both 1 9 (length word) p.0 in
-    neat_run word 9 m l.0 l.1 (letters_run word p.1) (or_left (is_word word) (is_number word) w) n
+    neat_run word 9 m l.0 l.1 (all_in_run letter (λ b l. or_right (digit b) (letter b) l) word p.1) (or_left (is_word word) (is_number word) w) n
 
 close : Neat 1 (codes ")")
 close = neat_mark closes neat_end

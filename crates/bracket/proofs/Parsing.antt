@@ -73,12 +73,12 @@ run_front run rest e h = take_at run rest _ (sym (length_run run rest e h))
 pub run_rest : (run rest : List ℕ) → list_all in_run run ≡ true → prefix_len in_run rest ≡ 0 → past_run (run ++ rest) ≡ rest
 run_rest run rest e h = drop_at run rest _ (sym (length_run run rest e h))
 
-every_inner : (run : List ℕ) → list_all digit run ≡ true → list_all in_run run ≡ true
-every_inner [] e = refl
-every_inner (b ∷ run) e = let p = and_parts (digit b) (list_all digit run) e in and_from (in_run b) (list_all in_run run) (or_left (digit b) (letter b) p.0) (every_inner run p.1)
+pub all_in_run : (test : ℕ → Bool) → ((b : ℕ) → test b ≡ true → in_run b ≡ true) → (run : List ℕ) → list_all test run ≡ true → list_all in_run run ≡ true
+all_in_run test is [] e = refl
+all_in_run test is (b ∷ run) e = let p = and_parts (test b) (list_all test run) e in and_from (in_run b) (list_all in_run run) (is b p.0) (all_in_run test is run p.1)
 
 pub decimal_run : (n : ℕ) → Small n → list_all in_run (decimal n) ≡ true
-decimal_run n h = every_inner (decimal n) (decimal_digits n h)
+decimal_run n h = all_in_run digit (λ b d. or_left (digit b) (letter b) d) (decimal n) (decimal_digits n h)
 
 -- number items: what is read is what is written, and what is written is read
 pub number_item_is : (bytes : List ℕ) (x : ℕ × List ℕ) → number_item bytes ≡ Some x → (bytes ≡ item x.0 ++ x.1) × Small x.0
@@ -116,7 +116,7 @@ numbers_are (suc n) end bytes ns h =
     let same : p.value.0 ∷ q.value ≡ ns = cc in
     subst (λ m. (bytes ≡ items m end) × AllByRecursion Small m × (length m ≡ suc n)) same (a.0 ∙ ap (λ r. item p.value.0 ++ r) b.0, (a.1, b.1), ap suc b.2)
 
-items_stop : (ns end : List ℕ) → prefix_len in_run end ≡ 0 → prefix_len in_run (items ns end) ≡ 0
+pub items_stop : (ns end : List ℕ) → prefix_len in_run end ≡ 0 → prefix_len in_run (items ns end) ≡ 0
 items_stop [] end h = h
 items_stop (n ∷ ns) end h = refl
 

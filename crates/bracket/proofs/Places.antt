@@ -7,17 +7,13 @@ use Rattle.bracket.specs.Faults.{wrong, wrong_at}
 
 -- whether the byte before index i belongs to a run
 abbrev pub inside_at : Bool → List ℕ → ℕ → Bool
-inside_at inside [] i = inside
-inside_at inside (b ∷ bytes) zero = inside
+inside_at inside bytes zero = inside
+inside_at inside [] (suc i) = inside
 inside_at inside (b ∷ bytes) (suc i) = inside_at (in_run b) bytes i
-
-pub inside_start : (inside : Bool) (bytes : List ℕ) → inside_at inside bytes 0 ≡ inside
-inside_start inside [] = refl
-inside_start inside (b ∷ bytes) = refl
 
 inside_suc : (inside : Bool) (bytes : List ℕ) (i : ℕ) → i < length bytes → inside_at inside bytes (suc i) ≡ in_run (get_or bytes i 0)
 inside_suc inside [] i h = absurd (omega arith)
-inside_suc inside (b ∷ bytes) zero h = inside_start (in_run b) bytes
+inside_suc inside (b ∷ bytes) zero h = refl
 inside_suc inside (b ∷ bytes) (suc i) h = inside_suc (in_run b) bytes i (omega arith)
 
 pub inside_step : (bytes : List ℕ) (i : ℕ) → i < length bytes → inside_at false bytes (i + 1) ≡ in_run (get_or bytes i 0)

@@ -48,26 +48,40 @@ single_items word bytes = and_then (kind_of word) (λ kind. and_then (number_ite
 abbrev pub board_items : List ℕ → Option BoardText
 board_items bytes = and_then (after (codes " ") bytes) (λ rest. cond (bytes_eq (run_of rest) (codes "join")) (join_items (past_run rest)) (single_items (run_of rest) (past_run rest)))
 
+-- what is made of a list of one, two or three numbers
+abbrev pub of_one : (ℕ → Command) → List ℕ → Command
+of_one make a = make (slice_index a 0)
+
+abbrev pub of_two : (ℕ → ℕ → Command) → List ℕ → Command
+of_two make a = make (slice_index a 0) (slice_index a 1)
+
+abbrev pub of_three : (ℕ → ℕ → ℕ → Command) → List ℕ → Command
+of_three make a = make (slice_index a 0) (slice_index a 1) (slice_index a 2)
+
 -- a level, then a budget and a period in a form of their own
 abbrev pub component_items : List ℕ → Option Command
 component_items bytes =
-    and_then (number_item bytes) (λ level. and_then (after (codes " (budget") level.1) (λ rest. and_then (number_items 2 (codes "))") rest) (λ b. Some (Component level.0 (slice_index b 0) (slice_index b 1)))))
+    and_then (number_item bytes) (λ level. and_then (after (codes " (budget") level.1) (λ rest. and_then (number_items 2 (codes "))") rest) (λ b. Some (of_two (Component level.0) b))))
+
+-- a form of so many numbers and nothing else
+abbrev pub numbers_form : ℕ → (List ℕ → Command) → List ℕ → Option Command
+numbers_form n make items = and_then (number_items n (codes ")") items) (λ a. Some (make a))
 
 -- forms that declare a plan
 abbrev pub draft_form : List ℕ → List ℕ → Option Command
 draft_form word items =
     cond (bytes_eq word (codes "board")) (and_then (board_items items) (λ board. Some (Board board)))
     (cond (bytes_eq word (codes "component")) (component_items items)
-    (cond (bytes_eq word (codes "task")) (and_then (number_items 2 (codes ")") items) (λ a. Some (Task (slice_index a 0) (slice_index a 1))))
-    (cond (bytes_eq word (codes "use")) (and_then (number_items 3 (codes ")") items) (λ a. Some (Use (slice_index a 0) (slice_index a 1) (slice_index a 2)))) None)))
+    (cond (bytes_eq word (codes "task")) (numbers_form 2 (of_two Task) items)
+    (cond (bytes_eq word (codes "use")) (numbers_form 3 (of_three Use) items) None)))
 
 -- forms that call a running controller
 abbrev pub call_form : List ℕ → List ℕ → Option Command
 call_form word items =
-    cond (bytes_eq word (codes "release")) (and_then (number_items 2 (codes ")") items) (λ a. Some (Release (slice_index a 0) (slice_index a 1))))
-    (cond (bytes_eq word (codes "done")) (and_then (number_items 2 (codes ")") items) (λ a. Some (Done (slice_index a 0) (slice_index a 1))))
-    (cond (bytes_eq word (codes "lock")) (and_then (number_items 3 (codes ")") items) (λ a. Some (Lock (slice_index a 0) (slice_index a 1) (slice_index a 2))))
-    (cond (bytes_eq word (codes "unlock")) (and_then (number_items 3 (codes ")") items) (λ a. Some (Unlock (slice_index a 0) (slice_index a 1) (slice_index a 2))))
+    cond (bytes_eq word (codes "release")) (numbers_form 2 (of_two Release) items)
+    (cond (bytes_eq word (codes "done")) (numbers_form 2 (of_two Done) items)
+    (cond (bytes_eq word (codes "lock")) (numbers_form 3 (of_three Lock) items)
+    (cond (bytes_eq word (codes "unlock")) (numbers_form 3 (of_three Unlock) items)
     (cond (bytes_eq word (codes "tick") && bytes_eq items (codes ")")) (Some Tick) None))))
 
 -- forms that ask a running controller
@@ -75,11 +89,13 @@ abbrev pub question_form : List ℕ → List ℕ → Option Command
 question_form word items =
     cond (bytes_eq word (codes "runner") && bytes_eq items (codes ")")) (Some Runner)
     (cond (bytes_eq word (codes "ceiling") && bytes_eq items (codes ")")) (Some Ceiling)
-    (cond (bytes_eq word (codes "budget")) (and_then (number_items 1 (codes ")") items) (λ a. Some (Budget (slice_index a 0))))
-    (cond (bytes_eq word (codes "holder")) (and_then (number_items 1 (codes ")") items) (λ a. Some (Holder (slice_index a 0))))
-    (cond (bytes_eq word (codes "bound")) (and_then (number_items 1 (codes ")") items) (λ a. Some (Bound (slice_index a 0))))
-    (cond (bytes_eq word (codes "assured")) (and_then (number_items 1 (codes ")") items) (λ a. Some (Assured (slice_index a 0)))) None)))))
+    (cond (bytes_eq word (codes "budget")) (numbers_form 1 (of_one Budget) items)
+    (cond (bytes_eq word (codes "holder")) (numbers_form 1 (of_one Holder) items)
+    (cond (bytes_eq word (codes "bound")) (numbers_form 1 (of_one Bound) items)
+    (cond (bytes_eq word (codes "assured")) (numbers_form 1 (of_one Assured) items) None)))))
+
+abbrev pub any_form : List ℕ → List ℕ → Option Command
+any_form word items = option_or (draft_form word items) (option_or (call_form word items) (question_form word items))
 
 abbrev pub form_of : List ℕ → Option Command
-form_of line =
-    and_then (after (codes "(") line) (λ rest. option_or (draft_form (run_of rest) (past_run rest)) (option_or (call_form (run_of rest) (past_run rest)) (question_form (run_of rest) (past_run rest))))
+form_of line = and_then (after (codes "(") line) (λ rest. any_form (run_of rest) (past_run rest))

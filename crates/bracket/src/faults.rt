@@ -55,7 +55,7 @@ impl LineFault {
         }
     }
 
-    /// The number of the cause.
+    /// The number of the cause, which is all that an answer prints of it.
     pub fn cause(self) -> u8
         ensures { result ≡ cause_of self }
     {

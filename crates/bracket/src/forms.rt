@@ -7,6 +7,7 @@ use super::commands::{BoardText, Command, Kind, Side};
 use super::items::{Rest, numbers, spells};
 
 // Words are told apart by one comparison after the other: the proof of a `match` on byte strings goes byte by byte, and stays open at `deadline`.
+// No `TryFrom`: its error would tell nobody anything.
 fn kind_of(word: &[u8]) -> Option<Kind>
     ensures { result ≡ kind_of word.now }
 {

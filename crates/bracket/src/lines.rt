@@ -10,6 +10,7 @@ use super::words::check_words;
 const LONGEST: usize = 80;
 
 // Faults of words come first, wherever in the line they stand.
+#[tactic(auto, using(crate::proofs::Determined::by_form))]
 fn form(line: &[u8]) -> Result<Command, FormFault>
     ensures { FormReads line.now result }
 {

@@ -60,6 +60,7 @@ fn is_word(run: &[u8]) -> bool
 }
 
 // The value of up to 16 digits; none where another byte is among them.
+#[tactic(auto, using(crate::proofs::Decimal::room))]
 fn digits(run: &[u8]) -> Option<u64>
     requires { length run.now ≤ 16 }
     ensures { result ≡ (if list_all digit run.now then Some (read_on 0 run.now) else None) }

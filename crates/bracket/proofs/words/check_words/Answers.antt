@@ -1,10 +1,7 @@
-use Rattle.std.proofs.Common.{false, sym, ◌∙◌, arith, below_more}
+use Rattle.std.proofs.Common.{sym, ◌∙◌, below_more}
 use Rattle.std.proofs.lemmas.Result.{err_from_is_err_and}
-use Rattle.bracket.proofs.Places.{inside_start, inside_step, at_place}
+use Rattle.bracket.proofs.Places.{inside_step, at_place}
 use Rattle.bracket.proofs.words.check_words.Goals as goal
-
-pub loop-i-init : goal.loop-i-init
-loop-i-init c = (λ i h. absurd (omega arith), sym (inside_start false c.args.line.now))
 
 pub returns-in_err-check_at : goal.returns-in_err-check_at
 returns-in_err-check_at c =

@@ -1,7 +1,7 @@
 //! Known forms: the word that begins one says which items may follow.
 ghost use Rattle.std.specs.Prelude.{◌≡◌};
 ghost use Rattle.std.specs.Option.{option_map};
-ghost use Rattle.bracket.specs.Items.{kind_of, side_item, join_items, single_items, board_items, component_items, draft_form, call_form, question_form, form_of};
+ghost use Rattle.bracket.specs.Items.{kind_of, side_item, join_items, single_items, board_items, component_items, draft_form, call_form, question_form, any_form, form_of};
 
 use super::commands::{BoardText, Command, Kind, Side};
 use super::items::{Rest, numbers, spells};
@@ -157,6 +157,14 @@ fn question_form(word: &[u8], items: &[u8]) -> Option<Command>
     }
 }
 
+fn any_form(word: &[u8], items: &[u8]) -> Option<Command>
+    ensures { result ≡ any_form word.now items.now }
+{
+    draft_form(word, items)
+        .or_else(|| call_form(word, items))
+        .or_else(|| question_form(word, items))
+}
+
 // The command that the line is the text of, if it is one.
 pub(crate) fn command(line: &[u8]) -> Option<Command>
     ensures { result ≡ form_of line.now }
@@ -164,8 +172,5 @@ pub(crate) fn command(line: &[u8]) -> Option<Command>
     let mut rest = Rest { bytes: line };
     rest.skip(b"(")?;
     let word = rest.run();
-    let items = rest.bytes;
-    draft_form(word, items)
-        .or_else(|| call_form(word, items))
-        .or_else(|| question_form(word, items))
+    any_form(word, rest.bytes)
 }

@@ -1,9 +1,8 @@
 -- Known forms: a line is read as a command exactly where it is the command's text.
-use Rattle.std.proofs.Common.{◌≡◌, ℕ, zero, suc, Bool, true, false, cond, ◌&&◌, ◌⊎◌, List, [], ◌∷◌, ◌++◌, length, Some, None, codes, decimal, Option, slice_index, sym, refl, ap, ◌∙◌, subst, inl, inr, ⊎_elim, append_assoc, arith, take-append-drop}
+use Rattle.std.proofs.Common.{◌≡◌, ℕ, zero, suc, Bool, true, false, cond, ◌⊎◌, List, [], ◌∷◌, ◌++◌, length, Some, None, codes, decimal, Option, slice_index, sym, refl, ap, ◌∙◌, subst, inl, inr, ⊎_elim, append_assoc, arith, take-append-drop}
 use Rattle.std.specs.Bool.{then_some}
 use Rattle.std.specs.Option.{option_or}
 use Rattle.std.proofs.lemmas.List.Elements.{All-from_recursion, recursion_from_All}
-use Rattle.std.proofs.lemmas.Bool.{and_parts}
 use Rattle.std.specs.List.{prefix_len, list_all, AllByRecursion}
 use Rattle.std.specs.Str.{bytes_eq}
 use Rattle.bracket.specs.declared.commands.Kind.{Kind}
@@ -98,16 +97,19 @@ joined rest board true e h =
 joined rest board false e h = let p = single_is (run_of rest) (past_run rest) board h in (ap (λ l. codes " " ++ l) (split rest) ∙ p.0, p.1)
 
 board_is : (bytes : List ℕ) (board : BoardText) → board_items bytes ≡ Some board → (bytes ≡ board_text board) × AllByRecursion Small (board_numbers board)
+unfolding board_items
 board_is bytes board h =
     let start = and_then_lem (after (codes " ") bytes) _ board h in
     let p = joined start.value board _ refl start.gives in
     (after_is (codes " ") bytes start.value start.found ∙ p.0, p.1)
 
 single_kinds : (kind : Kind) (rest : List ℕ) → board_items (codes " " ++ (kind_text kind ++ (32 ∷ rest))) ≡ and_then (number_items 1 (codes ")") (32 ∷ rest)) (λ a. Some (Single (record { kind = kind; reach = slice_index a 0 })))
+unfolding board_items
 single_kinds Fixed rest = refl
 single_kinds Deadline rest = refl
 
 board_reads : (board : BoardText) → AllByRecursion Small (board_numbers board) → board_items (board_text board) ≡ Some board
+unfolding board_items
 board_reads (Single side) h =
     single_kinds side.kind (decimal side.reach ++ codes ")") ∙ ap (λ o. and_then o (λ a. Some (Single (record { kind = side.kind; reach = slice_index a 0 })))) (numbers_read (side.reach ∷ []) (codes ")") h refl)
 board_reads (Join first second) h = join_reads first second h.0 h.1.0
@@ -127,11 +129,10 @@ module _ (word rest : List ℕ) (command : Command) where
   either name x y f g false e h = g h
 
   bare : (name : List ℕ) (it : Command) (y : Option Command) → 40 ∷ (name ++ codes ")") ≡ text it → AllByRecursion Small (numbers it) → (y ≡ Some command → Says command word rest)
-      → (same : Bool) → (bytes_eq word name && bytes_eq rest (codes ")")) ≡ same → cond same (Some it) y ≡ Some command → Says command word rest
-  bare name it y t s g true e h =
-      let p = and_parts (bytes_eq word name) (bytes_eq rest (codes ")")) e in
-      said name it (same_text word name p.0) (cc) (ap (λ b. 40 ∷ (name ++ b)) (same_text rest (codes ")") p.1) ∙ t) s
-  bare name it y t s g false e h = g h
+      → (same : Bool) → bytes_eq word name ≡ same → cond same (then_some (bytes_eq rest (codes ")")) it) y ≡ Some command → Says command word rest
+  bare name it y t s = either name (then_some (bytes_eq rest (codes ")")) it) y (λ e h.
+      let p = taken (bytes_eq rest (codes ")")) it command h in
+      said name it e p.1 (ap (λ b. 40 ∷ (name ++ b)) (same_text rest (codes ")") p.0) ∙ t) s)
 
   -- a form of numbers alone, and the tests after it
   numbered : (name : List ℕ) (n : ℕ) (make : List ℕ → Command) (y : Option Command) → Each n (λ ns. (text (make ns) ≡ 40 ∷ (name ++ items ns (codes ")"))) × (numbers (make ns) ≡ ns)) → (y ≡ Some command → Says command word rest)
@@ -149,6 +150,7 @@ module _ (word rest : List ℕ) (command : Command) where
       said (codes "board") (Board a.value) e (cc) (ap (λ i. codes "(board" ++ i) p.0) p.1
 
   component_form : word ≡ codes "component" → component_items rest ≡ Some command → Says command word rest
+  unfolding component_items
   component_form e h =
       let level = and_then_lem (number_item rest) _ command h in
       let inner = and_then_lem (after (codes " (budget") level.value.1) _ command level.gives in
@@ -216,6 +218,7 @@ reads : (word ns : List ℕ) (make : List ℕ → Command) → list_all in_run w
 reads word ns make e f s = form_at word (items ns (codes ")")) e (items_stop ns (codes ")") refl) ∙ f _ (ap (λ o. and_then o (λ a. Some (make a))) (numbers_read ns (codes ")") s refl))
 
 component_made : (level budget period : ℕ) → AllByRecursion Small (level ∷ budget ∷ period ∷ []) → component_items (item level ++ (codes " (budget" ++ (item budget ++ (item period ++ codes "))")))) ≡ Some (Component level budget period)
+unfolding component_items
 component_made level budget period s =
     ap (λ o. and_then o (λ level. and_then (after (codes " (budget") level.1) (λ rest. and_then (number_items 2 (codes "))") rest) (λ b. Some (Component level.0 (slice_index b 0) (slice_index b 1))))))
     (number_item_reads level (codes " (budget" ++ (item budget ++ (item period ++ codes "))"))) s.0 refl)

@@ -4,3 +4,4 @@ pub mod Decimal
 pub mod Known
 pub mod Neat
 pub mod Determined
+pub mod Spelling

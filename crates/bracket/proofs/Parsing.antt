@@ -105,6 +105,7 @@ items [] end = end
 items (n ∷ ns) end = item n ++ items ns end
 
 pub numbers_are : (n : ℕ) (end bytes ns : List ℕ) → number_items n end bytes ≡ Some ns → (bytes ≡ items ns end) × AllByRecursion Small ns × (length ns ≡ n)
+unfolding number_items
 numbers_are zero end bytes ns h =
     let t = taken (bytes_eq bytes end) [] ns h in
     subst (λ m. (bytes ≡ items m end) × AllByRecursion Small m × (length m ≡ 0)) t.1 (same_text bytes end t.0, tt, refl)
@@ -121,6 +122,7 @@ items_stop [] end h = h
 items_stop (n ∷ ns) end h = refl
 
 pub numbers_read : (ns end : List ℕ) → AllByRecursion Small ns → prefix_len in_run end ≡ 0 → number_items (length ns) end (items ns end) ≡ Some ns
+unfolding number_items
 numbers_read [] end s stops = ap (λ b. then_some b []) ((bytes_eq-Decides end end).1 refl)
 numbers_read (n ∷ ns) end s stops =
     ap (λ o. and_then o (λ a. and_then (number_items (length ns) end a.1) (λ b. Some (a.0 ∷ b)))) (number_item_reads n (items ns end) s.0 (items_stop ns end stops)) ∙ ap (λ o. and_then o (λ b. Some (n ∷ b))) (numbers_read ns end s.1 stops)
@@ -132,6 +134,7 @@ joined (Some b) done v = ap Some (sym (append_assoc done (v ∷ []) b))
 
 one_more : (n : ℕ) (end bytes done : List ℕ) (v : ℕ) (rest : List ℕ) → number_item bytes ≡ Some (v, rest)
     → and_then (number_items (suc n) end bytes) (λ b. Some (done ++ b)) ≡ and_then (number_items n end rest) (λ b. Some ((done ++ v ∷ []) ++ b))
+unfolding number_items
 one_more n end bytes done v rest h =
     ap (λ o. and_then (and_then o (λ a. and_then (number_items n end a.1) (λ b. Some (a.0 ∷ b)))) (λ b. Some (done ++ b))) h ∙ joined (number_items n end rest) done v
 

@@ -1,5 +1,5 @@
 -- How the reader goes through the items of a form, from the left. `Reads` says what comes of it without these.
-use Rattle.std.specs.Prelude.{ℕ, zero, suc, cond, ◌&&◌, List, [], ◌∷◌, Some, None, codes, Option, ◌==◌, slice_index}
+use Rattle.std.specs.Prelude.{ℕ, zero, suc, cond, List, [], ◌∷◌, Some, None, codes, Option, ◌==◌, slice_index}
 use Rattle.std.specs.Bool.{then_some}
 use Rattle.std.specs.Option.{option_and_then, option_or}
 use Rattle.std.specs.Str.{bytes_eq}
@@ -27,7 +27,7 @@ abbrev pub number_item : List ℕ → Option (ℕ × List ℕ)
 number_item bytes = and_then (after (codes " ") bytes) (λ rest. and_then (number_of (run_of rest)) (λ n. Some (n, past_run rest)))
 
 -- just so many number items, the last of which ends the line with this text
-abbrev pub number_items : ℕ → List ℕ → List ℕ → Option (List ℕ)
+unfoldable pub number_items : ℕ → List ℕ → List ℕ → Option (List ℕ)
 number_items zero end bytes = then_some (bytes_eq bytes end) []
 number_items (suc n) end bytes = and_then (number_item bytes) (λ a. and_then (number_items n end a.1) (λ b. Some (a.0 ∷ b)))
 
@@ -45,7 +45,7 @@ join_items bytes = and_then (side_item bytes) (λ a. and_then (side_item a.1) (�
 abbrev pub single_items : List ℕ → List ℕ → Option BoardText
 single_items word bytes = and_then (kind_of word) (λ kind. and_then (number_items 1 (codes ")") bytes) (λ a. Some (Single (record { kind = kind; reach = slice_index a 0 }))))
 
-abbrev pub board_items : List ℕ → Option BoardText
+unfoldable pub board_items : List ℕ → Option BoardText
 board_items bytes = and_then (after (codes " ") bytes) (λ rest. cond (bytes_eq (run_of rest) (codes "join")) (join_items (past_run rest)) (single_items (run_of rest) (past_run rest)))
 
 -- what is made of a list of one, two or three numbers
@@ -59,7 +59,7 @@ abbrev pub of_three : (ℕ → ℕ → ℕ → Command) → List ℕ → Command
 of_three make a = make (slice_index a 0) (slice_index a 1) (slice_index a 2)
 
 -- a level, then a budget and a period in a form of their own
-abbrev pub component_items : List ℕ → Option Command
+unfoldable pub component_items : List ℕ → Option Command
 component_items bytes =
     and_then (number_item bytes) (λ level. and_then (after (codes " (budget") level.1) (λ rest. and_then (number_items 2 (codes "))") rest) (λ b. Some (of_two (Component level.0) b))))
 
@@ -82,13 +82,13 @@ call_form word items =
     (cond (bytes_eq word (codes "done")) (numbers_form 2 (of_two Done) items)
     (cond (bytes_eq word (codes "lock")) (numbers_form 3 (of_three Lock) items)
     (cond (bytes_eq word (codes "unlock")) (numbers_form 3 (of_three Unlock) items)
-    (cond (bytes_eq word (codes "tick") && bytes_eq items (codes ")")) (Some Tick) None))))
+    (cond (bytes_eq word (codes "tick")) (then_some (bytes_eq items (codes ")")) Tick) None))))
 
 -- forms that ask a running controller
 abbrev pub question_form : List ℕ → List ℕ → Option Command
 question_form word items =
-    cond (bytes_eq word (codes "runner") && bytes_eq items (codes ")")) (Some Runner)
-    (cond (bytes_eq word (codes "ceiling") && bytes_eq items (codes ")")) (Some Ceiling)
+    cond (bytes_eq word (codes "runner")) (then_some (bytes_eq items (codes ")")) Runner)
+    (cond (bytes_eq word (codes "ceiling")) (then_some (bytes_eq items (codes ")")) Ceiling)
     (cond (bytes_eq word (codes "budget")) (numbers_form 1 (of_one Budget) items)
     (cond (bytes_eq word (codes "holder")) (numbers_form 1 (of_one Holder) items)
     (cond (bytes_eq word (codes "bound")) (numbers_form 1 (of_one Bound) items)

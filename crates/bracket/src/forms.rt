@@ -6,17 +6,14 @@ ghost use Rattle.bracket.specs.Items.{kind_of, side_item, join_items, single_ite
 use super::commands::{BoardText, Command, Kind, Side};
 use super::items::{Rest, numbers, spells};
 
-// Words are told apart by one comparison after the other: the proof of a `match` on byte strings goes byte by byte, and stays open at `deadline`.
-// No `TryFrom`: its error would tell nobody anything.
+// An `Option` and no `TryFrom`, whose error would tell nobody anything.
 fn kind_of(word: &[u8]) -> Option<Kind>
     ensures { result ≡ kind_of word.now }
 {
-    if spells(word, b"fixed") {
-        Some(Kind::Fixed)
-    } else if spells(word, b"deadline") {
-        Some(Kind::Deadline)
-    } else {
-        None
+    match word {
+        b"fixed" => Some(Kind::Fixed),
+        b"deadline" => Some(Kind::Deadline),
+        _ => None,
     }
 }
 
@@ -48,6 +45,7 @@ fn single_items(word: &[u8], bytes: &[u8]) -> Option<BoardText>
     Some(BoardText::Single(Side { kind, reach }))
 }
 
+#[tactic(auto, unfolding(crate::specs::Items::board_items))]
 fn board_items(bytes: &[u8]) -> Option<BoardText>
     ensures { result ≡ board_items bytes.now }
 {
@@ -61,6 +59,7 @@ fn board_items(bytes: &[u8]) -> Option<BoardText>
     }
 }
 
+#[tactic(auto, unfolding(crate::specs::Items::component_items))]
 fn component_items(bytes: &[u8]) -> Option<Command>
     ensures { result ≡ component_items bytes.now }
 {
@@ -79,25 +78,25 @@ fn component_items(bytes: &[u8]) -> Option<Command>
 fn draft_form(word: &[u8], items: &[u8]) -> Option<Command>
     ensures { result ≡ draft_form word.now items.now }
 {
-    if spells(word, b"board") {
-        board_items(items).map(Command::Board)
-    } else if spells(word, b"component") {
-        component_items(items)
-    } else if spells(word, b"task") {
-        let [component, deadline] = numbers::<2>(items, b")")?;
-        Some(Command::Task {
-            component,
-            deadline,
-        })
-    } else if spells(word, b"use") {
-        let [component, resource, access] = numbers::<3>(items, b")")?;
-        Some(Command::Use {
-            component,
-            resource,
-            access,
-        })
-    } else {
-        None
+    match word {
+        b"board" => board_items(items).map(Command::Board),
+        b"component" => component_items(items),
+        b"task" => {
+            let [component, deadline] = numbers::<2>(items, b")")?;
+            Some(Command::Task {
+                component,
+                deadline,
+            })
+        }
+        b"use" => {
+            let [component, resource, access] = numbers::<3>(items, b")")?;
+            Some(Command::Use {
+                component,
+                resource,
+                access,
+            })
+        }
+        _ => None,
     }
 }
 
@@ -105,30 +104,33 @@ fn draft_form(word: &[u8], items: &[u8]) -> Option<Command>
 fn call_form(word: &[u8], items: &[u8]) -> Option<Command>
     ensures { result ≡ call_form word.now items.now }
 {
-    if spells(word, b"release") {
-        let [component, task] = numbers::<2>(items, b")")?;
-        Some(Command::Release { component, task })
-    } else if spells(word, b"done") {
-        let [component, task] = numbers::<2>(items, b")")?;
-        Some(Command::Done { component, task })
-    } else if spells(word, b"lock") {
-        let [component, task, resource] = numbers::<3>(items, b")")?;
-        Some(Command::Lock {
-            component,
-            task,
-            resource,
-        })
-    } else if spells(word, b"unlock") {
-        let [component, task, resource] = numbers::<3>(items, b")")?;
-        Some(Command::Unlock {
-            component,
-            task,
-            resource,
-        })
-    } else if spells(word, b"tick") && spells(items, b")") {
-        Some(Command::Tick)
-    } else {
-        None
+    match word {
+        b"release" => {
+            let [component, task] = numbers::<2>(items, b")")?;
+            Some(Command::Release { component, task })
+        }
+        b"done" => {
+            let [component, task] = numbers::<2>(items, b")")?;
+            Some(Command::Done { component, task })
+        }
+        b"lock" => {
+            let [component, task, resource] = numbers::<3>(items, b")")?;
+            Some(Command::Lock {
+                component,
+                task,
+                resource,
+            })
+        }
+        b"unlock" => {
+            let [component, task, resource] = numbers::<3>(items, b")")?;
+            Some(Command::Unlock {
+                component,
+                task,
+                resource,
+            })
+        }
+        b"tick" => spells(items, b")").then_some(Command::Tick),
+        _ => None,
     }
 }
 
@@ -136,24 +138,26 @@ fn call_form(word: &[u8], items: &[u8]) -> Option<Command>
 fn question_form(word: &[u8], items: &[u8]) -> Option<Command>
     ensures { result ≡ question_form word.now items.now }
 {
-    if spells(word, b"runner") && spells(items, b")") {
-        Some(Command::Runner)
-    } else if spells(word, b"ceiling") && spells(items, b")") {
-        Some(Command::Ceiling)
-    } else if spells(word, b"budget") {
-        let [component] = numbers::<1>(items, b")")?;
-        Some(Command::Budget { component })
-    } else if spells(word, b"holder") {
-        let [resource] = numbers::<1>(items, b")")?;
-        Some(Command::Holder { resource })
-    } else if spells(word, b"bound") {
-        let [component] = numbers::<1>(items, b")")?;
-        Some(Command::Bound { component })
-    } else if spells(word, b"assured") {
-        let [component] = numbers::<1>(items, b")")?;
-        Some(Command::Assured { component })
-    } else {
-        None
+    match word {
+        b"runner" => spells(items, b")").then_some(Command::Runner),
+        b"ceiling" => spells(items, b")").then_some(Command::Ceiling),
+        b"budget" => {
+            let [component] = numbers::<1>(items, b")")?;
+            Some(Command::Budget { component })
+        }
+        b"holder" => {
+            let [resource] = numbers::<1>(items, b")")?;
+            Some(Command::Holder { resource })
+        }
+        b"bound" => {
+            let [component] = numbers::<1>(items, b")")?;
+            Some(Command::Bound { component })
+        }
+        b"assured" => {
+            let [component] = numbers::<1>(items, b")")?;
+            Some(Command::Assured { component })
+        }
+        _ => None,
     }
 }
 

@@ -49,6 +49,7 @@ impl<'a> Rest<'a> {
 }
 
 // Just so many number items, the last of which ends the line with this text.
+#[tactic(auto, unfolding(crate::specs::Items::number_items))]
 pub(crate) fn numbers<const N: usize>(bytes: &[u8], end: &[u8]) -> Option<[u64; N]>
     ensures { result ≡ number_items N end.now bytes.now }
 {

@@ -11,6 +11,3 @@ returns-in-component c = spelt (codes "component") c.args.word.now (λ w. draft_
 
 pub returns-in_ok-component-in-task : goal.returns-in_ok-component-in-task
 returns-in_ok-component-in-task c = spelt (codes "task") c.args.word.now (λ w. draft_form w c.args.items.now) _ (omega arith) (search rules) (search rules)
-
-pub returns-in_ok-component-in-use : goal.returns-in_ok-component-in-use
-returns-in_ok-component-in-use c = spelt (codes "use") c.args.word.now (λ w. draft_form w c.args.items.now) _ (omega arith) (search rules) (search rules)

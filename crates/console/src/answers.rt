@@ -19,6 +19,7 @@ pub enum Reply {
 }
 
 /// The answer to one line.
+// No `Result`: an unreadable or a refused line is no error of a call, and each of the three is counted by itself.
 #[derive(Clone, Copy, PartialEq, Eq, Debug)]
 pub enum Answer {
     Accepted(Reply),

@@ -6,6 +6,9 @@ ghost use Rattle.console.specs.Texts.{filled};
 use itoa::Buffer;
 use std::alloc::AllocError;
 
+// Each call of this crate that adds text promises a bound of its own on the memory that it takes. That is said of a change and not of a
+// vector, so it stands in each contract, as `Adds`, and in no type.
+
 // Adds these bytes.
 pub(crate) fn push_text(text: &[u8], out: &mut Vec<u8>) -> Result<(), AllocError>
     ensures memory { Adds (length text.now) out.old out.new (is_ok result) }

@@ -15,6 +15,7 @@ pub struct Controller<B> {
     plan: Plan,
 }
 
+// That the board stays as it was is said of each call: no type can, since calls to come will change it.
 impl<B> Controller<B> {
     /// A controller that drafts a plan, of which nothing is declared yet.
     pub fn new(board: B) -> Controller<B>

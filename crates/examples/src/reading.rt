@@ -3,38 +3,31 @@ use bracket::{BoardText, Command, Kind, Side, read};
 
 #[test]
 fn forms_are_read(rt: HostRuntime) {
-    assert!(rt;
-        matches!(
-            read(b"(component 20 (budget 3 40))"),
-            Ok(Command::Component {
-                level: 20,
-                budget: 3,
-                period: 40,
-            })
-        )
+    assert_eq!(rt;
+        read(b"(component 20 (budget 3 40))"),
+        Ok(Command::Component {
+            level: 20,
+            budget: 3,
+            period: 40,
+        })
     );
-    assert!(rt;
-        matches!(
-            read(b"(board join (fixed 3) (deadline 5))"),
-            Ok(Command::Board(BoardText::Join(
-                Side {
-                    kind: Kind::Fixed,
-                    reach: 3,
-                },
-                Side {
-                    kind: Kind::Deadline,
-                    reach: 5,
-                }
-            )))
-        )
+    let first = Side {
+        kind: Kind::Fixed,
+        reach: 3,
+    };
+    let second = Side {
+        kind: Kind::Deadline,
+        reach: 5,
+    };
+    assert_eq!(rt;
+        read(b"(board join (fixed 3) (deadline 5))"),
+        Ok(Command::Board(BoardText::Join(first, second)))
     );
-    assert!(rt;
-        matches!(
-            read(b"(holder 9999999999999999)"),
-            Ok(Command::Holder {
-                resource: 9_999_999_999_999_999,
-            })
-        )
+    assert_eq!(rt;
+        read(b"(holder 9999999999999999)"),
+        Ok(Command::Holder {
+            resource: 9_999_999_999_999_999,
+        })
     );
 }
 

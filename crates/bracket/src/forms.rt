@@ -74,6 +74,8 @@ fn component_items(bytes: &[u8]) -> Option<Command>
     })
 }
 
+// Here and below a word and its items stay two slices: a struct of them would be made for these calls alone, and taken apart in each.
+
 // A form that declares a part of a plan.
 fn draft_form(word: &[u8], items: &[u8]) -> Option<Command>
     ensures { result ≡ draft_form word.now items.now }

@@ -101,7 +101,8 @@ fn is_fit(run: &[u8]) -> bool
     is_word(run) || number(run).is_some()
 }
 
-// What is wrong where `byte` stands, before the rest of the line that it begins.
+// What is wrong where `byte` stands, before the rest of the line that it begins. The byte is given too, since taking it from the rest
+// would ask for a pattern that cannot fail.
 fn check_at(byte: u8, rest: &[u8], inside: bool, column: usize) -> Result<(), WordFault>
     ensures { result_err result ≡ wrong (class_of byte) inside (run_of rest.now) column }
 {

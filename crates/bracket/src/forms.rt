@@ -45,6 +45,7 @@ fn single_items(word: &[u8], bytes: &[u8]) -> Option<BoardText>
     Some(BoardText::Single(Side { kind, reach }))
 }
 
+// An `if`: a `match` would be no plainer for two branches.
 #[tactic(auto, unfolding(crate::specs::Items::board_items))]
 fn board_items(bytes: &[u8]) -> Option<BoardText>
     ensures { result ≡ board_items bytes.now }
@@ -75,6 +76,7 @@ fn component_items(bytes: &[u8]) -> Option<Command>
 }
 
 // Here and below a word and its items stay two slices: a struct of them would be made for these calls alone, and taken apart in each.
+// Arms that are alike but for their command stay apart, since each says which number goes to which field.
 
 // A form that declares a part of a plan.
 fn draft_form(word: &[u8], items: &[u8]) -> Option<Command>

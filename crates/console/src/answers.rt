@@ -57,6 +57,7 @@ fn push_fault(line: u64, fault: LineFault, out: &mut Vec<u8>) -> Result<(), Allo
 {
     push_text(b"(", out)?;
     push_text(fault.layer(), out)?;
+    // `as`, since `From` has nothing from usize to u64, and no bit is lost
     fill(
         b" # # #)",
         &[line, fault.column() as u64, u64::from(fault.cause())],

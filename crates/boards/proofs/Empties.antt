@@ -1,13 +1,12 @@
 -- Boards on which no job is pending.
-use Rattle.std.proofs.Common.{◌≡◌, ℕ, ◌<◌, Bool, true, false, [], ◌∷◌, Some, None, MatchBool, Decides, Option, length, get_or, not, sym, subst, refl, ap, ◌∙◌, arith}
+use Rattle.std.proofs.Common.{◌≡◌, ℕ, ◌<◌, Bool, true, false, Some, None, MatchBool, Decides, Option, length, get_or, not, sym, subst, refl, ap, ◌∙◌, arith}
 use Rattle.std.specs.List.{range_with_len, HoldsAt, AllWithin}
 use Rattle.std.proofs.lemmas.List.FromFn.{length-range_with_len, get_or-range_with_len}
 use mathlib.Core.Path.{fun_ext}
 use Rattle.std.proofs.lemmas.Bool.{false_from_ne_true, true≢false, false≢true}
 use Rattle.std.proofs.lemmas.Bool.Decides.{Decides-below_or, Decides-like, Decides-not, not_from_Decides, same_from_decides}
-use Rattle.refusals.specs.Causes.{first_cause, some, outside}
-use Rattle.refusals.specs.declared.Refusal.TheVariants.{ReachRange}
-use Rattle.boards.specs.Boards.{Meaning, Lawful, Among, HasJob, Empty, occupied, reach_refusal, empty_board}
+use Rattle.refusals.specs.Causes.{some}
+use Rattle.boards.specs.Boards.{Meaning, Lawful, Among, HasJob, Empty, occupied, empty_board}
 
 -- ---- the test
 
@@ -57,8 +56,3 @@ empty_is m among none =
     let jobs : m.pending ≡ (λ c t. false) = fun_ext (λ c. fun_ext (λ t. none c t)) in
     let picks : m.picked ≡ (λ c. None) = fun_ext (λ c. none_picked (m.pending c) (m.picked c) (among c) (none c)) in
     λ i. record { reach = m.reach; pending = jobs i; picked = picks i }
-
--- only a reach out of range is refused there
-pub new_refusal : (m : Meaning) (k n : ℕ) → m ≡ empty_board k → reach_refusal m n ≡ first_cause ((outside 1 8 n, ReachRange) ∷ [])
-unfolding occupied
-new_refusal m k n e = ap (λ x. reach_refusal x n) e

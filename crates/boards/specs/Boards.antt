@@ -48,6 +48,10 @@ occupied pending = some (λ c. some (pending c) 8) 8
 abbrev pub reach_refusal : Meaning → ℕ → Option Refusal
 reach_refusal m n = first_cause ((outside 1 8 n, ReachRange) ∷ (occupied m.pending, BoardNotEmpty) ∷ [])
 
+-- the first cause for which no board of this reach is made
+abbrev pub made_refusal : ℕ → Option Refusal
+made_refusal n = first_cause ((outside 1 8 n, ReachRange) ∷ [])
+
 -- the job of task u of component d is that of task t of component c
 abbrev pub same_job : ℕ → ℕ → ℕ → ℕ → Bool
 same_job c t d u = d == c && u == t

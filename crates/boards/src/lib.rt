@@ -5,8 +5,10 @@ mod board;
 mod either;
 mod empty;
 mod joined;
+mod resizable;
 
 pub use board::Board;
 pub use either::Either;
 pub use empty::is_empty;
 pub use joined::Joined;
+pub use resizable::{Resizable, with_reach};

@@ -7,7 +7,7 @@ use Rattle.bracket.specs.declared.commands.Side.{Side}
 use Rattle.bracket.specs.declared.commands.Kind.TheVariants as kind
 use Rattle.bracket.specs.declared.commands.BoardText.{BoardText}
 use Rattle.bracket.specs.declared.commands.BoardText.TheVariants.{Single, Join}
-use Rattle.boards.specs.Boards.{Meaning, empty_board}
+use Rattle.boards.specs.Boards.{Meaning, empty_board, made_refusal}
 use Rattle.fixed.specs.FixedBoards.{fixed_means}
 use Rattle.deadline.specs.DeadlineBoards.{deadline_means}
 use Rattle.boards.specs.JoinedBoards.{joined}
@@ -52,7 +52,7 @@ reach_of (Join first second) = min 8 (first.reach + second.reach)
 
 -- it is refused where a reach in it is not from 1 to 8
 abbrev pub side_refusal : Side → Option Refusal
-side_refusal side = first_cause ((outside 1 8 side.reach, ReachRange) ∷ [])
+side_refusal side = made_refusal side.reach
 
 abbrev pub board_refusal : BoardText → Option Refusal
 board_refusal (Single side) = side_refusal side

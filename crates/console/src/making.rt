@@ -3,7 +3,7 @@ ghost use Rattle.std.specs.Prelude.{◌≡◌, IfOk};
 ghost use Rattle.std.specs.Result.{result_err};
 ghost use Rattle.console.specs.Making.{side_refusal, board_refusal, SideMade, BoardMade};
 
-use boards::{Either, Joined};
+use boards::{Either, Joined, with_reach};
 use bracket::{BoardText, Kind, Side};
 use deadline::Deadline;
 use fixed::Fixed;
@@ -20,16 +20,8 @@ fn make_side(side: Side) -> Result<SideBoard, Refusal>
     ensures board { IfOk result (λ b. SideMade side b) }
 {
     match side.kind {
-        Kind::Fixed => {
-            let mut board = Fixed::new();
-            board.set_reach(side.reach)?;
-            Ok(Either::First(board))
-        }
-        Kind::Deadline => {
-            let mut board = Deadline::new();
-            board.set_reach(side.reach)?;
-            Ok(Either::Second(board))
-        }
+        Kind::Fixed => with_reach(side.reach).map(Either::First),
+        Kind::Deadline => with_reach(side.reach).map(Either::Second),
     }
 }
 
@@ -39,10 +31,7 @@ pub fn make_board(text: BoardText) -> Result<TextBoard, Refusal>
     ensures board { IfOk result (λ b. BoardMade text b) }
 {
     match text {
-        BoardText::Single(side) => {
-            let board = make_side(side)?;
-            Ok(Either::First(board))
-        }
+        BoardText::Single(side) => make_side(side).map(Either::First),
         BoardText::Join(first, second) => {
             let first = make_side(first)?;
             let second = make_side(second)?;

@@ -7,7 +7,7 @@ ghost use Rattle.line.specs.Records.{job_le};
 ghost use Rattle.fixed.specs.FixedBoards.{fixed_pending};
 ghost use Rattle.deadline.specs.Queues.{SameJobs, Distinct};
 
-use boards::Board;
+use boards::{Board, Resizable};
 use fixed::Fixed;
 use line::{Job, Line};
 use refusals::Refusal;
@@ -33,38 +33,8 @@ pub struct Deadline {
 }
 
 impl Deadline {
-    ghost use Rattle.std.specs.Prelude.{OnErr, OnOk};
-    ghost use Rattle.std.specs.Result.{result_err};
-    ghost use Rattle.boards.specs.Boards.{empty_board, reach_refusal};
     ghost use Rattle.deadline.specs.Queues.{place_of, first_of};
-    ghost use Rattle.deadline.specs.DeadlineBoards.{queue, deadline_means};
-
-    /// A board of reach 8 on which no job is pending.
-    pub fn new() -> Deadline
-        ensures { deadline_means result ≡ empty_board 8 }
-    {
-        // fills places that none reads; a `Default` of `Job` would be a job that means nothing
-        let unused = Job {
-            due: 0,
-            component: 0,
-            task: 0,
-        };
-        let sets = Fixed::new();
-        Deadline {
-            sets,
-            line: Line::new(),
-            places: [unused; JOBS],
-        }
-    }
-
-    /// Sets the reach, from 1 to 8, of a board on which no job is pending.
-    pub fn set_reach(&mut self, reach: u64) -> Result<(), Refusal>
-        ensures refusal { result_err result ≡ reach_refusal (deadline_means self.old) reach }
-        ensures kept { OnErr result (self.new ≡ self.old) }
-        ensures set { OnOk result (deadline_means self.new ≡ empty_board reach) }
-    {
-        self.sets.set_reach(reach)
-    }
+    ghost use Rattle.deadline.specs.DeadlineBoards.{queue};
 
     // The pending jobs, in the order of their due times.
     fn jobs(&self) -> &[Job]
@@ -139,5 +109,26 @@ impl Board for Deadline {
         ensures earliest { Earliest component (queue self.now) result }
     {
         self.first_of(component)
+    }
+}
+
+impl Resizable for Deadline {
+    fn new() -> Deadline {
+        // fills places that none reads; a `Default` of `Job` would be a job that means nothing
+        let unused = Job {
+            due: 0,
+            component: 0,
+            task: 0,
+        };
+        let sets = Fixed::new();
+        Deadline {
+            sets,
+            line: Line::new(),
+            places: [unused; JOBS],
+        }
+    }
+
+    fn set_reach(&mut self, reach: u64) -> Result<(), Refusal> {
+        self.sets.set_reach(reach)
     }
 }

@@ -2,7 +2,7 @@
 ghost use Rattle.boards.specs.Boards.{empty_board};
 ghost use Rattle.std.proofs.Common.{rules};
 
-use boards::{Board, Either, Joined, is_empty};
+use boards::{Board, Either, Joined, Resizable, is_empty, with_reach};
 use bracket::{BoardText, Kind, Side};
 use console::make_board;
 use deadline::Deadline;
@@ -10,18 +10,6 @@ use fixed::Fixed;
 use refusals::Refusal;
 use std::process::Abort;
 use std::test::Fail;
-
-fn fixed(reach: u64) -> Result<Fixed, Refusal> {
-    let mut board = Fixed::new();
-    board.set_reach(reach)?;
-    Ok(board)
-}
-
-fn deadline(reach: u64) -> Result<Deadline, Refusal> {
-    let mut board = Deadline::new();
-    board.set_reach(reach)?;
-    Ok(board)
-}
 
 // A board that serves no component.
 #[derive(Drop)]
@@ -81,13 +69,13 @@ fn refuses<B: Board>(rt: &impl Abort, board: &mut B, component: u64) {
 
 #[test]
 fn every_board_refuses_alike(rt: HostRuntime) -> Result<(), Fail> {
-    refuses(&rt, &mut fixed(3)?, 2);
+    refuses(&rt, &mut with_reach::<Fixed>(3)?, 2);
     refuses(&rt, &mut Deadline::new(), 7);
-    let mut joined = Joined::new(fixed(3)?, deadline(5)?);
+    let mut joined = Joined::new(with_reach::<Fixed>(3)?, with_reach::<Deadline>(5)?);
     refuses(&rt, &mut joined, 2);
     refuses(&rt, &mut joined, 3);
     refuses(&rt, &mut joined, 7);
-    let mut either: Either<Fixed, Deadline> = Either::Second(deadline(1)?);
+    let mut either: Either<Fixed, Deadline> = Either::Second(with_reach::<Deadline>(1)?);
     refuses(&rt, &mut either, 0);
     Ok(())
 }
@@ -193,8 +181,25 @@ fn the_reach_is_1_to_8_and_set_on_an_empty_board(rt: HostRuntime) {
 }
 
 #[test]
+fn a_board_is_made_with_a_reach_of_1_to_8(rt: HostRuntime) -> Result<(), Fail> {
+    assert_eq!(rt; with_reach::<Fixed>(0).err(), Some(Refusal::ReachRange));
+    assert_eq!(rt; with_reach::<Fixed>(9).err(), Some(Refusal::ReachRange));
+    assert_eq!(rt;
+        with_reach::<Deadline>(u64::MAX).err(),
+        Some(Refusal::ReachRange)
+    );
+    let smallest = with_reach::<Deadline>(1)?;
+    assert!(rt; smallest.reach() == 1);
+    assert!(rt; is_empty(&smallest));
+    let largest = with_reach::<Fixed>(8)?;
+    assert!(rt; largest.reach() == 8);
+    assert!(rt; is_empty(&largest));
+    Ok(())
+}
+
+#[test]
 fn a_join_counts_the_second_board_from_its_start(rt: HostRuntime) -> Result<(), Fail> {
-    let mut board = Joined::new(fixed(3)?, deadline(5)?);
+    let mut board = Joined::new(with_reach::<Fixed>(3)?, with_reach::<Deadline>(5)?);
     assert!(rt; board.reach() == 8);
     assert_eq!(rt; board.add(2, 4, 7), Ok(()));
     assert_eq!(rt; board.add(2, 1, 9), Ok(()));
@@ -214,17 +219,17 @@ fn a_join_counts_the_second_board_from_its_start(rt: HostRuntime) -> Result<(), 
 
 #[test]
 fn what_lies_past_8_belongs_to_no_component(rt: HostRuntime) -> Result<(), Fail> {
-    let mut second = deadline(8)?;
+    let mut second = with_reach::<Deadline>(8)?;
     assert_eq!(rt; second.add(1, 2, 3), Ok(()));
     assert_eq!(rt; second.add(2, 5, 6), Ok(()));
-    let mut board = Joined::new(fixed(6)?, second);
+    let mut board = Joined::new(with_reach::<Fixed>(6)?, second);
     assert!(rt; board.reach() == 8);
     assert_eq!(rt; board.pick(7), Some(2));
     assert!(rt; !board.pending(8));
     assert_eq!(rt; board.pick(8), None);
     assert_eq!(rt; board.add(8, 0, 0), Err(Refusal::UnknownComponent));
     assert_eq!(rt; board.strike(8, 5), Err(Refusal::UnknownComponent));
-    let small = Joined::new(fixed(1)?, fixed(2)?);
+    let small = Joined::new(with_reach::<Fixed>(1)?, with_reach::<Fixed>(2)?);
     assert!(rt; small.reach() == 3);
     assert_eq!(rt; small.pick(3), None);
     Ok(())
@@ -232,8 +237,8 @@ fn what_lies_past_8_belongs_to_no_component(rt: HostRuntime) -> Result<(), Fail>
 
 #[test]
 fn a_join_of_joins_is_a_board(rt: HostRuntime) -> Result<(), Fail> {
-    let left = Joined::new(fixed(1)?, deadline(2)?);
-    let right = Joined::new(deadline(2)?, fixed(4)?);
+    let left = Joined::new(with_reach::<Fixed>(1)?, with_reach::<Deadline>(2)?);
+    let right = Joined::new(with_reach::<Deadline>(2)?, with_reach::<Fixed>(4)?);
     let mut board = Joined::new(left, right);
     assert!(rt; board.reach() == 8);
     assert_eq!(rt; board.add(0, 3, 9), Ok(()));
@@ -253,11 +258,11 @@ fn a_join_of_joins_is_a_board(rt: HostRuntime) -> Result<(), Fail> {
 
 #[test]
 fn a_board_may_serve_no_component(rt: HostRuntime) -> Result<(), Fail> {
-    let mut second = Joined::new(Nobody, fixed(2)?);
+    let mut second = Joined::new(Nobody, with_reach::<Fixed>(2)?);
     assert!(rt; second.reach() == 2);
     refuses(&rt, &mut second, 0);
     refuses(&rt, &mut second, 1);
-    let mut first = Joined::new(deadline(2)?, Nobody);
+    let mut first = Joined::new(with_reach::<Deadline>(2)?, Nobody);
     assert!(rt; first.reach() == 2);
     refuses(&rt, &mut first, 1);
     let mut none = Joined::new(Nobody, Nobody);

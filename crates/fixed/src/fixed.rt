@@ -3,7 +3,7 @@ ghost use Rattle.std.specs.Prelude.{◌≤◌};
 ghost use Rattle.fixed.specs.Tasks.{ClearFrom};
 
 use crate::tasks::TaskSet;
-use boards::{Board, is_empty};
+use boards::{Board, Resizable, is_empty};
 use refusals::Refusal;
 
 /// A board that picks by fixed priority: the smaller a task's number is, the earlier it runs. It
@@ -18,38 +18,12 @@ pub struct Fixed {
 }
 
 impl Fixed {
-    ghost use Rattle.std.specs.Prelude.{◌≡◌, IfOk, OnErr, OnOk, nat_lt};
+    ghost use Rattle.std.specs.Prelude.{◌≡◌, IfOk, nat_lt};
     ghost use Rattle.std.specs.Bool.{then_some};
     ghost use Rattle.std.specs.Result.{result_err};
-    ghost use Rattle.boards.specs.Boards.{empty_board, job_refusal, reach_refusal};
+    ghost use Rattle.boards.specs.Boards.{job_refusal};
     ghost use Rattle.fixed.specs.Tasks.{set_at};
     ghost use Rattle.fixed.specs.FixedBoards.{fixed_means};
-
-    /// A board of reach 8 on which no job is pending.
-    pub fn new() -> Fixed
-        ensures { fixed_means result ≡ empty_board 8 }
-    {
-        Fixed {
-            reach: 8,
-            sets: [TaskSet::new(); 8],
-        }
-    }
-
-    /// Sets the reach, from 1 to 8, of a board on which no job is pending.
-    pub fn set_reach(&mut self, reach: u64) -> Result<(), Refusal>
-        ensures refusal { result_err result ≡ reach_refusal (fixed_means self.old) reach }
-        ensures kept { OnErr result (self.new ≡ self.old) }
-        ensures set { OnOk result (fixed_means self.new ≡ empty_board reach) }
-    {
-        if !(1..=8).contains(&reach) {
-            return Err(Refusal::ReachRange);
-        }
-        if !is_empty(self) {
-            return Err(Refusal::BoardNotEmpty);
-        }
-        self.reach = reach;
-        Ok(())
-    }
 
     // The component's set, if the component is below the reach.
     fn tasks_of(&self, component: u64) -> Option<TaskSet>
@@ -118,5 +92,25 @@ impl Board for Fixed {
         ensures smallest { Smallest (fixed_pending self.now component) result }
     {
         self.tasks_of(component)?.smallest()
+    }
+}
+
+impl Resizable for Fixed {
+    fn new() -> Fixed {
+        Fixed {
+            reach: 8,
+            sets: [TaskSet::new(); 8],
+        }
+    }
+
+    fn set_reach(&mut self, reach: u64) -> Result<(), Refusal> {
+        if !(1..=8).contains(&reach) {
+            return Err(Refusal::ReachRange);
+        }
+        if !is_empty(self) {
+            return Err(Refusal::BoardNotEmpty);
+        }
+        self.reach = reach;
+        Ok(())
     }
 }

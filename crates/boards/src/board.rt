@@ -23,6 +23,8 @@ pub trait Board {
     fn reach(&self) -> u64
         ensures { result ≡ (means self.now).reach };
 
+    // that a refusal changes nothing is what each call promises of itself, and no type can say it
+
     /// Adds a job, due at a time.
     fn add(&mut self, component: u64, task: u64, due: u64) -> Result<(), Refusal>
         ensures refusal { result_err result ≡ add_refusal (means self.old) component task }

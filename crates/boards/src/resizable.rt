@@ -12,6 +12,8 @@ pub trait Resizable: Board {
     fn new() -> Self
         ensures { Self.means result ≡ empty_board 8 };
 
+    // that a refusal changes nothing is said here too, as of each call of `Board`
+
     /// Sets the reach, from 1 to 8, of a board on which no job is pending.
     fn set_reach(&mut self, reach: u64) -> Result<(), Refusal>
         ensures refusal { result_err result ≡ reach_refusal (Self.means self.old) reach }

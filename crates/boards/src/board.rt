@@ -7,8 +7,8 @@ use refusals::Refusal;
 
 /// A board holds the pending jobs of the components below its reach, which is at most 8. Of each
 /// component's tasks 0 to 7 a job is pending or not.
-// A component and a task go together in two calls only, and a call may pass them out of range to be
-// refused: a struct of both would say nothing more.
+// A component and a task go together in two calls of the trait and in what serves them, and either may
+// be out of range, to be refused: a struct of both would say nothing more.
 pub trait Board {
     // what the board stands for: its reach, the pending jobs and the picks
     ghost means: { Self → Meaning };

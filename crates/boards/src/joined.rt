@@ -14,7 +14,7 @@ pub struct Joined<F, S> {
     second: S,
 }
 
-/// The board that has a component, with the component's number there.
+/// The board that has a component, with the component's number there. (Not `Either`, which is a board.)
 #[derive(Clone, Copy)]
 enum Side {
     First(u64),
@@ -45,6 +45,7 @@ impl<F: Board, S: Board> Joined<F, S> {
     }
 }
 
+// As in `Either`, the arms of a method differ in the board's type alone and are written out.
 impl<F: Board, S: Board> Board for Joined<F, S> {
     ghost means = { λ j. joined (F.Board.means j.first) (S.Board.means j.second) };
 

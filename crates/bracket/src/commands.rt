@@ -24,6 +24,7 @@ pub enum BoardText {
 }
 
 /// One command. Its numbers are as they are written: whether they are in range is not the reader's concern.
+// Each variant names the numbers of its own form, also where two forms have a component and a task alike.
 #[derive(Clone, Copy, PartialEq, Eq, Debug)]
 pub enum Command {
     Board(BoardText),

@@ -29,6 +29,7 @@ pub enum LineFault {
     Form(FormFault),
 }
 
+// Layer, column and cause are what an answer is filled in with, which is written from fixed byte strings: so these and no `Display`.
 impl LineFault {
     /// The layer that the fault belongs to, as it is printed.
     pub fn layer(self) -> &'static [u8]
@@ -56,6 +57,7 @@ impl LineFault {
     }
 
     /// The number of the cause, which is all that an answer prints of it.
+    // no `as`: variants with fields have no numbers of their own
     pub fn cause(self) -> u8
         ensures { result ≡ cause_of self }
     {

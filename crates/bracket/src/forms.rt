@@ -45,7 +45,7 @@ fn single_items(word: &[u8], bytes: &[u8]) -> Option<BoardText>
     Some(BoardText::Single(Side { kind, reach }))
 }
 
-// An `if`: a `match` would be no plainer for two branches.
+// An `if`: a `match` was tried, and the proof that no other word is `join` did not close.
 #[tactic(auto, unfolding(crate::specs::Items::board_items))]
 fn board_items(bytes: &[u8]) -> Option<BoardText>
     ensures { result ≡ board_items bytes.now }
@@ -76,7 +76,8 @@ fn component_items(bytes: &[u8]) -> Option<Command>
 }
 
 // Here and below a word and its items stay two slices: a struct of them would be made for these calls alone, and taken apart in each.
-// Arms that are alike but for their command stay apart, since each says which number goes to which field.
+// Arms that are alike but for their command stay apart, since each says which number goes to which field. (`map` with a closure that
+// takes the numbers apart was tried, and its proof did not close.)
 
 // A form that declares a part of a plan.
 fn draft_form(word: &[u8], items: &[u8]) -> Option<Command>

@@ -7,7 +7,8 @@ ghost use Rattle.bracket.specs.Faults.{fit, wrong, Clean, FirstFault};
 
 use super::faults::WordFault;
 
-// The sorts of character that the reader tells apart.
+// The sorts of character that the reader tells apart: by literal cases and ranges in one place, as docs/text.md has them, and not by the
+// library's tests for letters and digits.
 #[derive(Clone, Copy, PartialEq, Eq, Debug)]
 enum Class {
     Open,
@@ -65,7 +66,8 @@ fn digits(run: &[u8]) -> Option<u64>
     requires { length run.now ≤ 16 }
     ensures { result ≡ (if list_all digit run.now then Some (read_on 0 run.now) else None) }
 {
-    // a loop and not `try_fold`: a closure does not see how few digits went before, which bounds its sum
+    // a loop: `try_fold` was tried, and its proof did not close, since a closure does not see how few digits went before, which bounds
+    // its sum; the library's `parse` takes a sign too
     let mut value = 0;
     for byte in run {
         if Class::from(*byte) != Class::Digit {
@@ -102,7 +104,7 @@ fn is_fit(run: &[u8]) -> bool
 }
 
 // What is wrong where `byte` stands, before the rest of the line that it begins. The byte is given too, since taking it from the rest
-// would ask for a pattern that cannot fail.
+// would ask for an arm for an empty rest, which cannot come.
 fn check_at(byte: u8, rest: &[u8], inside: bool, column: usize) -> Result<(), WordFault>
     ensures { result_err result ≡ wrong (class_of byte) inside (run_of rest.now) column }
 {
@@ -118,7 +120,8 @@ fn check_at(byte: u8, rest: &[u8], inside: bool, column: usize) -> Result<(), Wo
 pub(crate) fn check_words(line: &[u8]) -> Result<(), WordFault>
     ensures { MatchResult result (λ _. Clean line.now) (λ fault. FirstFault line.now fault) }
 {
-    // a loop, since a `try_fold` would hand on this flag and then throw it away: whether the byte before belongs to a run
+    // a loop: `try_for_each`, which looks at the byte before itself, was tried, and its proof did not close
+    // whether the byte before belongs to a run
     let mut inside = false;
     for (i, byte) in line.iter().enumerate() {
         check_at(*byte, &line[i..], inside, i + 1)?;

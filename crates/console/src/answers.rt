@@ -38,6 +38,8 @@ impl From<Result<Reply, Refusal>> for Answer {
     }
 }
 
+// Answers are written from fixed byte strings with numbers in them, here and below, and not by `Display`: what that needs of memory is
+// promised nowhere.
 impl Reply {
     fn write(self, out: &mut Vec<u8>) -> Result<(), AllocError>
         ensures memory { Adds 80 out.old out.new (is_ok result) }

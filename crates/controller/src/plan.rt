@@ -58,7 +58,8 @@ impl Plan {
     fn check_component(&self, level: u64, budget: u64, period: u64) -> Result<(), Refusal>
         ensures { result ≡ answered (component_refusal (declared self.now) level budget period) tt }
     {
-        // a struct of the three numbers would be made only to be taken apart: each has its own cause
+        // the numbers of a declaration, here and below, are in no struct: it would be made only to be taken apart, since each has its
+        // own cause
         ensure(!self.components.is_full(), Refusal::ComponentLimit)?;
         ensure((1..=HIGHEST_LEVEL).contains(&level), Refusal::LevelRange)?;
         ensure(!self.level_taken(level), Refusal::LevelTaken)?;

@@ -19,8 +19,8 @@ const JOBS: usize = 64;
 /// smaller task.
 ///
 /// The jobs are kept twice: in a line, in the order of their due times, and on a fixed board, where
-/// one look at a byte tells whether a component has a job, or has this one. The line is lent the
-/// board's own table of places at each call, since neither allocates anything.
+/// one look at a byte tells whether a component has a job, or has this one. A line is lent its memory
+/// at each call, and keeps none: the table of places is what this one is lent.
 #[derive(Drop)]
 pub struct Deadline {
     sets: Fixed,

@@ -1,7 +1,11 @@
 -- Sets of tasks, by their bytes.
-use Rattle.std.proofs.Common.{◌≡◌, ℕ, ◌^◌, ◌<◌, Bool, true, false, Some, None, Option, replicate, refl, ap, arith, w8}
+use Rattle.std.proofs.Common.{◌≡◌, ℕ, ◌^◌, ◌<◌, ◌&&◌, ◌||◌, ◌==◌, Bool, true, false, List, length, Some, None, Option, replicate, refl, sym, ap, ◌∙◌, ⊎_elim, arith, w8}
+use Rattle.std.specs.Prelude.{nat_eq, slice_set}
+use Rattle.boards.specs.Boards.{same_job}
+use Rattle.boards.specs.Joins.{adding_keeps}
+use Rattle.std.proofs.lemmas.Bool.{cases_eq, eq-eqb, ne_eqb, and_left}
 use Rattle.std.specs.Int.{trailing_zeros}
-use Rattle.std.proofs.lemmas.List.{get_or-replicate, get_or_past, length-replicate}
+use Rattle.std.proofs.lemmas.List.{get_or-replicate, get_or_past, length-replicate, get_or-set_same, get_or-set_other}
 use Rattle.std.proofs.lemmas.Nat.Bits.{bit_at-zero, bit_at-trailing_zeros}
 use Rattle.std.proofs.lemmas.Bool.Decides.{nat_tests}
 use Rattle.fixed.specs.Tasks.{member, no_tasks, set_at, smallest, Smallest}
@@ -44,3 +48,17 @@ none_anywhere n s e c t =
     let long = length-replicate n s in
     let here : set_at (replicate n s) c ≡ no_tasks = grind arith in
     none_of_zero (set_at (replicate n s) c) (ap (λ x. x.bits) here) t
+
+-- the table with one task more in one set
+pub set_gains : (sets : List TaskSet) (c t : ℕ) (s : TaskSet) → c < length sets → ((u : ℕ) → member s u ≡ (member (set_at sets c) u || u == t)) → (d u : ℕ) → member (set_at (slice_set sets c s) d) u ≡ (member (set_at sets d) u || same_job c t d u)
+set_gains sets c t s lt gained d u =
+    ⊎_elim
+    (λ (e : d ≡ c).
+    let here : set_at (slice_set sets c s) d ≡ s = ap (set_at (slice_set sets c s)) e ∙ get_or-set_same sets c s no_tasks lt in
+    let this : same_job c t d u ≡ nat_eq u t = ap (λ b. b && u == t) (eq-eqb d c e) in
+    ap (λ x. member x u) here ∙ gained u ∙ sym (ap (λ k. member (set_at sets k) u || same_job c t d u) e ∙ ap (λ b. member (set_at sets c) u || b) this))
+    (λ ne.
+    let there : set_at (slice_set sets c s) d ≡ set_at sets d = get_or-set_other sets c d s no_tasks ne in
+    let other : same_job c t d u ≡ false = and_left _ _ (ne_eqb d c ne) in
+    ap (λ x. member x u) there ∙ sym (ap (λ b. member (set_at sets d) u || b) other ∙ adding_keeps (member (set_at sets d) u)))
+    (cases_eq d c)

@@ -10,7 +10,8 @@ use refusals::Refusal;
 /// keeps one byte for each component.
 #[derive(Drop)]
 pub struct Fixed {
-    // no length of the table: it has a place for each of eight components, whatever the reach is
+    // a table of eight sets and no vector of `reach` sets, which would have to be filled anew each time
+    // that the reach is set
     reach: u64,
     sets: [TaskSet; 8],
     ghost eight: { reach ≤ 8 },
@@ -29,6 +30,7 @@ impl Fixed {
     fn tasks_of(&self, component: u64) -> Option<TaskSet>
         ensures { result ≡ then_some (nat_lt component self.now.reach) (set_at self.now.sets component) }
     {
+        // `as`, here and below: From has nothing from u64 to usize, and a component below the reach fits
         (component < self.reach).then(|| self.sets[component as usize])
     }
 

@@ -51,6 +51,7 @@ impl TaskSet {
     pub(crate) fn smallest(self) -> Option<u64>
         ensures { result ≡ smallest (member self) }
     {
+        // an early answer: with `then` the proof of the two cases did not close
         if self.bits == 0 {
             return None;
         }

@@ -2,7 +2,8 @@
 ghost use Rattle.std.specs.Prelude.{◌≡◌, Bool, true, false};
 
 /// A record type with a total order of its own.
-// Not std's `Ord`: its laws say of two records that tie only that they compare as equal, and not that they are one.
+// Not std's `Ord`: the line's promises are said in `le` and these four laws, and of two records that tie `Ord` says only that
+// they compare as equal.
 pub trait Ranked: Copy {
     // whether the first stands at or before the second
     ghost le: { Self → Self → Bool };

@@ -15,6 +15,7 @@ pub struct Job {
     pub task: u8,
 }
 
+// The two impls are alike but for their order: each impl states its laws itself, and a macro may write none.
 impl Ranked for Job {
     ghost le = { job_le };
 

@@ -61,6 +61,8 @@ fn next_piece<R: Read>(input: &mut R, piece: &mut [u8]) -> Result<usize, Failure
     Ok(0)
 }
 
+// The runtime and an input's name go through four functions: the one is a handle that each passes on, the other what that input is called.
+
 // Answers one input from its beginning to its end. Answers are written after each piece, so that a person at a prompt sees them at once.
 fn answer<R: Read>(rt: &HostRuntime, input: &mut R, name: &str) -> Result<(), Failure> {
     let heap = rt.alloc();

@@ -6,14 +6,23 @@ use crate::board::Board;
 use refusals::Refusal;
 
 /// A board that is one of two kinds, where only a run tells which: it does as that board does.
+// Not the kit's `Either`: callers name the variants, and of that one only this much is needed.
 #[derive(Drop)]
 pub enum Either<F, S> {
     First(F),
     Second(S),
 }
 
-// The two arms of each method differ in the board's type alone. They are written out: a method that
-// took a closure for each would be no shorter.
+// What the board that is there does, in the same words for either kind.
+macro_rules! on_either {
+    ($either:expr, $board:ident => $call:expr) => {
+        match $either {
+            Either::First($board) => $call,
+            Either::Second($board) => $call,
+        }
+    };
+}
+
 impl<F: Board, S: Board> Board for Either<F, S> {
     ghost means = { either_means F.Board.means S.Board.means };
 
@@ -24,37 +33,22 @@ impl<F: Board, S: Board> Board for Either<F, S> {
     ghost lawful = { Prim.search rules };
 
     fn reach(&self) -> u64 {
-        match self {
-            Either::First(board) => board.reach(),
-            Either::Second(board) => board.reach(),
-        }
+        on_either!(self, board => board.reach())
     }
 
     fn add(&mut self, component: u64, task: u64, due: u64) -> Result<(), Refusal> {
-        match self {
-            Either::First(board) => board.add(component, task, due),
-            Either::Second(board) => board.add(component, task, due),
-        }
+        on_either!(self, board => board.add(component, task, due))
     }
 
     fn strike(&mut self, component: u64, task: u64) -> Result<(), Refusal> {
-        match self {
-            Either::First(board) => board.strike(component, task),
-            Either::Second(board) => board.strike(component, task),
-        }
+        on_either!(self, board => board.strike(component, task))
     }
 
     fn pending(&self, component: u64) -> bool {
-        match self {
-            Either::First(board) => board.pending(component),
-            Either::Second(board) => board.pending(component),
-        }
+        on_either!(self, board => board.pending(component))
     }
 
     fn pick(&self, component: u64) -> Option<u64> {
-        match self {
-            Either::First(board) => board.pick(component),
-            Either::Second(board) => board.pick(component),
-        }
+        on_either!(self, board => board.pick(component))
     }
 }

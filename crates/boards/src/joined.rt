@@ -45,7 +45,7 @@ impl<F: Board, S: Board> Joined<F, S> {
     }
 }
 
-// As in `Either`, the arms of a method differ in the board's type alone and are written out.
+// The arms of a method differ in the board's type alone and are written out: a macro for the three of them would hide which board answers.
 impl<F: Board, S: Board> Board for Joined<F, S> {
     ghost means = { λ j. joined (F.Board.means j.first) (S.Board.means j.second) };
 

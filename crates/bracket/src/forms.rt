@@ -37,6 +37,7 @@ fn join_items(bytes: &[u8]) -> Option<BoardText>
     spells(rest.bytes, b")").then_some(BoardText::Join(first, second))
 }
 
+// Numbers are taken apart by a `let`, here and below: `map` with a closure that does so was tried, and its proof did not close.
 fn single_items(word: &[u8], bytes: &[u8]) -> Option<BoardText>
     ensures { result ≡ single_items word.now bytes.now }
 {
@@ -76,8 +77,7 @@ fn component_items(bytes: &[u8]) -> Option<Command>
 }
 
 // Here and below a word and its items stay two slices: a struct of them would be made for these calls alone, and taken apart in each.
-// Arms that are alike but for their command stay apart, since each says which number goes to which field. (`map` with a closure that
-// takes the numbers apart was tried, and its proof did not close.)
+// Arms that are alike but for their command stay apart, since each says which number goes to which field.
 
 // A form that declares a part of a plan.
 fn draft_form(word: &[u8], items: &[u8]) -> Option<Command>

@@ -66,8 +66,8 @@ fn digits(run: &[u8]) -> Option<u64>
     requires { length run.now ≤ 16 }
     ensures { result ≡ (if list_all digit run.now then Some (read_on 0 run.now) else None) }
 {
-    // a loop: `try_fold` was tried, and its proof did not close, since a closure does not see how few digits went before, which bounds
-    // its sum; the library's `parse` takes a sign too
+    // a loop: `try_fold` was tried, and its proof did not close, since how few digits went before bounds the sum; the library's `parse`
+    // takes a sign too
     let mut value = 0;
     for byte in run {
         if Class::from(*byte) != Class::Digit {
@@ -120,9 +120,9 @@ fn check_at(byte: u8, rest: &[u8], inside: bool, column: usize) -> Result<(), Wo
 pub(crate) fn check_words(line: &[u8]) -> Result<(), WordFault>
     ensures { MatchResult result (λ _. Clean line.now) (λ fault. FirstFault line.now fault) }
 {
-    // a loop: `try_for_each`, which looks at the byte before itself, was tried, and its proof did not close
     // whether the byte before belongs to a run
     let mut inside = false;
+    // a loop: `try_for_each`, which needs no such flag, was tried, and its proof did not close
     for (i, byte) in line.iter().enumerate() {
         check_at(*byte, &line[i..], inside, i + 1)?;
         inside = in_run(*byte);

@@ -21,6 +21,7 @@ impl Report {
         ensures memory { Adds (length name.now + 240) out.old out.new (is_ok result) }
         ensures text { OnOk result (out.new.items ≡ out.old.items ++ report_text name.now self) }
     {
+        // filled in as answers are, and not by `Display`: what that needs of memory is promised nowhere
         let lines = self.tally;
         let plan = self.counts;
         push_text(name, out)?;

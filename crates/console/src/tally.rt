@@ -31,7 +31,7 @@ impl Tally {
     pub(crate) fn count(&mut self, answer: Answer)
         ensures { self.new ≡ tallied self.old answer }
     {
-        self.lines = self.lines.saturating_add(1);
+        self.lines = self.next_line();
         match answer {
             Answer::Accepted(_) => self.accepted = self.accepted.saturating_add(1),
             Answer::Refused(_) => self.refused = self.refused.saturating_add(1),

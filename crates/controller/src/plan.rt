@@ -110,7 +110,8 @@ impl Plan {
         ensures after { declared self.new ≡ component_declared (declared self.old) level budget period }
     {
         self.check_component(level, budget, period)?;
-        // each number was checked against its limit, so that no cast loses a bit
+        // each number was checked against its limit, here and below, so that no cast loses a bit; a `try_from` would add a refusal that
+        // cannot come
         let number = self.components.len();
         self.components
             .push(Component::new(level as u8, budget as u32, period as u32));

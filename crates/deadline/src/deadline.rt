@@ -96,8 +96,7 @@ impl Board for Deadline {
         // found first, while the line agrees with the fixed board
         let at = self.place_of(component, task);
         self.sets.strike(component, task)?;
-        self.line.take(&mut self.places, at)?;
-        Ok(())
+        self.line.take(&mut self.places, at).map(|_| ())
     }
 
     fn pending(&self, component: u64) -> bool {

@@ -47,7 +47,7 @@ fn print(rt: &HostRuntime, text: &[u8]) -> Result<(), Failure> {
     out.flush().map_err(Failure::Write)
 }
 
-// The next piece of the input: how many bytes it has, or 0 at the end.
+// The next piece of the input: how many bytes it has, or 0 at the end, as the library's `read` answers it.
 fn next_piece<R: Read>(input: &mut R, piece: &mut [u8]) -> Result<usize, Failure>
     ensures { IfOk result (λ len. len ≤ length piece.new) }
 {

@@ -1,12 +1,13 @@
 -- Boards on which no job is pending.
-use Rattle.std.proofs.Common.{◌≡◌, ℕ, ◌<◌, Bool, true, false, Some, None, MatchBool, Decides, Option, length, get_or, not, sym, subst, refl, ap, ◌∙◌, arith}
+use Rattle.std.proofs.Common.{◌≡◌, ℕ, ◌<◌, Bool, true, false, Some, None, MatchBool, Decides, Option, [], ◌∷◌, length, get_or, not, sym, subst, refl, ap, ◌∙◌, arith}
 use Rattle.std.specs.List.{range_with_len, HoldsAt, AllWithin}
 use Rattle.std.proofs.lemmas.List.FromFn.{length-range_with_len, get_or-range_with_len}
 use mathlib.Core.Path.{fun_ext}
 use Rattle.std.proofs.lemmas.Bool.{false_from_ne_true, true≢false, false≢true}
 use Rattle.std.proofs.lemmas.Bool.Decides.{Decides-below_or, Decides-like, Decides-not, not_from_Decides, same_from_decides}
-use Rattle.refusals.specs.Causes.{some}
-use Rattle.boards.specs.Boards.{Meaning, Lawful, Among, HasJob, Empty, occupied, empty_board}
+use Rattle.refusals.specs.Causes.{first_cause, some, outside}
+use Rattle.refusals.specs.declared.Refusal.TheVariants.{ReachRange, BoardNotEmpty}
+use Rattle.boards.specs.Boards.{Meaning, Lawful, Among, HasJob, Empty, occupied, reach_refusal, empty_board}
 
 -- ---- the test
 
@@ -25,7 +26,7 @@ any_below P n false h inside = (
 )
 
 module _ (m : Meaning) (lawful : Lawful m) where
-  occupied_decides : Decides (occupied m.pending) ((c : ℕ) × HasJob m c)
+  pub occupied_decides : Decides (occupied m.pending) ((c : ℕ) × HasJob m c)
   unfolding occupied
   occupied_decides = (
     λ h. let at = (some_decides (λ d. some (m.pending d) 8) 8).0 h in let job = (some_decides (m.pending at.0) 8).0 at.2 in (at.0, (job.0, job.2)),
@@ -56,3 +57,13 @@ empty_is m among none =
     let jobs : m.pending ≡ (λ c t. false) = fun_ext (λ c. fun_ext (λ t. none c t)) in
     let picks : m.picked ≡ (λ c. None) = fun_ext (λ c. none_picked (m.pending c) (m.picked c) (among c) (none c)) in
     λ i. record { reach = m.reach; pending = jobs i; picked = picks i }
+
+none_occupied : occupied (λ c t. false) ≡ false
+unfolding occupied
+none_occupied = refl
+
+-- only a reach out of range is refused there
+pub new_refusal : (m : Meaning) (k n : ℕ) → m ≡ empty_board k → reach_refusal m n ≡ first_cause ((outside 1 8 n, ReachRange) ∷ [])
+new_refusal m k n e =
+    ap (λ x. reach_refusal x n) e
+    ∙ ap (λ b. first_cause ((outside 1 8 n, ReachRange) ∷ (b, BoardNotEmpty) ∷ [])) none_occupied

@@ -8,10 +8,10 @@ use Rattle.std.proofs.lemmas.Str.Parse.{IsNumeralModel, numerals_by_fold, digits
 use Rattle.std.proofs.lemmas.Fmt.{decimal-digits_value, digits_decimal, digits_value-decimal, length-decimal-le, decimal_nonempty, first_decimal, decimal_digit}
 use Rattle.bracket.specs.Characters.{within, digit, read_on, is_number, number_of}
 
-digit_range : (b : ℕ) → digit b ≡ true → (48 ≤ b) × (b ≤ 57)
+pub digit_range : (b : ℕ) → digit b ≡ true → (48 ≤ b) × (b ≤ 57)
 digit_range b h = grind (arith, nat_tests)
 
-digit_from_range : (b : ℕ) → 48 ≤ b → b ≤ 57 → digit b ≡ true
+pub digit_from_range : (b : ℕ) → 48 ≤ b → b ≤ 57 → digit b ≡ true
 digit_from_range b l h = grind (arith, nat_tests)
 
 own : IsNumeralModel (λ ds. list_all digit ds ≡ true) (read_on 0)

@@ -1,4 +1,5 @@
 pub mod Places
+pub mod Runs
 pub mod Parsing
 pub mod Decimal
 pub mod Known

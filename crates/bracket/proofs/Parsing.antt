@@ -19,7 +19,7 @@ abbrev pub Small : ℕ → Type 0
 Small n = n < 10 ^ 16
 
 -- `after` finds just the texts that begin so
-after_text : (text rest : List ℕ) → after text (text ++ rest) ≡ Some rest
+pub after_text : (text rest : List ℕ) → after text (text ++ rest) ≡ Some rest
 after_text [] rest = refl
 after_text (t ∷ text) rest = ap (λ b. cond b (after text (text ++ rest)) None) (eq-eqb t t refl) ∙ after_text text rest
 
@@ -36,7 +36,7 @@ nothing : (text bytes : List ℕ) (r : Option (List ℕ)) → after text bytes �
 nothing text bytes None e h = refl
 nothing text bytes (Some rest) e h = absurd (h rest (after_is text bytes rest e))
 
-by_cases : (bytes text : List ℕ) (r : Option (Bor (List ℕ))) → MatchOption r ((rest : List ℕ) → bytes ≡ text ++ rest → ⊥) (λ x. bytes ≡ text ++ x.now) → option_map (λ x. x.now) r ≡ after text bytes
+pub by_cases : (bytes text : List ℕ) (r : Option (Bor (List ℕ))) → MatchOption r ((rest : List ℕ) → bytes ≡ text ++ rest → ⊥) (λ x. bytes ≡ text ++ x.now) → option_map (λ x. x.now) r ≡ after text bytes
 by_cases bytes text None h = nothing text bytes (after text bytes) refl h
 by_cases bytes text (Some x) h = sym (ap (after text) h ∙ after_text text x.now)
 

@@ -12,8 +12,13 @@ use Rattle.arrayvec.proofs.ArrayVecLemmas.{items-with_items}
 use Rattle.refusals.specs.declared.Refusal.{Refusal}
 use Rattle.refusals.specs.Causes.{answered, unless_refused}
 use Rattle.controller.specs.declared.component.Component.{Component}
+use Rattle.controller.specs.declared.plan.Plan.{Plan}
 use Rattle.controller.specs.Rules.{fresh, with_task, with_use, tasks_of, Within, InRange, InTime, Distinct, IsSound}
 use Rattle.controller.specs.Draft.{component_refusal, task_refusal, use_refusal}
+
+-- all that a plan keeps true of its components, as its ghost field has it
+pub plan_sound : (p : Plan) → IsSound p.components.items
+plan_sound p = p.sound
 
 -- no cause for a refusal holds
 abbrev pub Accepted : Option Refusal → Type 0

@@ -1,4 +1,4 @@
-mod Queued
-mod Room
-mod Tables
+pub mod Queued
+pub mod Room
+pub mod Tables
 mod Ordered

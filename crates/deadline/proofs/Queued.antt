@@ -1,8 +1,10 @@
 -- Jobs in a list, as jobs come and go.
-use Rattle.std.specs.Prelude.{◌≡◌, ℕ, suc, ◌+◌, ◌<◌, ◌≤◌, Bool, true, false, cond, not, ◌&&◌, ◌||◌, List, [], ◌∷◌, ◌++◌, length, refl}
+use Rattle.std.specs.Prelude.{◌≡◌, ℕ, suc, ◌+◌, ◌<◌, ◌≤◌, Bool, true, false, cond, not, ◌&&◌, ◌||◌, List, [], ◌∷◌, ◌++◌, length, drop, Some, slice_index_or, ◌==◌, refl}
 use Rattle.std.proofs.Common.{sym, ap, subst, ◌∙◌, ⊎_elim, arith}
 use Rattle.std.specs.Cmp.{IsEquivalence}
-use Rattle.std.specs.List.{remove}
+use Rattle.std.specs.List.{remove, find}
+use Rattle.std.specs.Option.{option_map}
+use Rattle.std.proofs.lemmas.List.{drop_more}
 use Rattle.std.specs.List.Sorted.{IsPermutation}
 use Rattle.std.proofs.lemmas.List.Folds.{list_any-append, list_any_none}
 use Rattle.std.proofs.lemmas.List.Quantifiers.{all_pairs_remove}
@@ -15,7 +17,7 @@ use Rattle.std.proofs.lemmas.Grind.{common_steps}
 use Rattle.line.specs.declared.records.Job.{Job}
 use Rattle.line.specs.Order.{insertion}
 use Rattle.boards.specs.Boards.{same_job}
-use Rattle.deadline.specs.Queues.{is_job, holds, place_of, of_one_task, Distinct}
+use Rattle.deadline.specs.Queues.{is_job, holds, place_of, first_of, of_one_task, Distinct}
 
 abbrev pub job : ℕ → ℕ → ℕ → Job
 job e c t = record { due = e; component = c; task = t }
@@ -27,6 +29,20 @@ one_task = record {
   symm = λ x y. grind (arith, nat_tests);
   congr = λ x y z e. grind (arith, nat_tests);
 }
+
+-- one step of a search: the job at i is the one, or it is not
+module _ (xs : List Job) (i : ℕ) (d : Job) (lt : i < length xs) where
+  pub place_here : (c t : ℕ) → is_job (slice_index_or xs i d) c t ≡ true → place_of c t (drop i xs) ≡ 0
+  place_here c t h = ap (place_of c t) (drop_more xs i d lt) ∙ ap (λ b. cond (not b) (1 + place_of c t (drop (i + 1) xs)) 0) h
+
+  pub place_on : (c t : ℕ) → is_job (slice_index_or xs i d) c t ≡ false → place_of c t (drop i xs) ≡ suc (place_of c t (drop (i + 1) xs))
+  place_on c t h = ap (place_of c t) (drop_more xs i d lt) ∙ ap (λ b. cond (not b) (1 + place_of c t (drop (i + 1) xs)) 0) h ∙ omega arith
+
+  pub first_here : (c : ℕ) → (c == (slice_index_or xs i d).component) ≡ true → first_of c (drop i xs) ≡ Some (slice_index_or xs i d).task
+  first_here c h = ap (first_of c) (drop_more xs i d lt) ∙ ap (λ b. option_map (λ x. x.task) (cond b (Some (slice_index_or xs i d)) (find (λ x. c == x.component) (drop (i + 1) xs)))) h
+
+  pub first_on : (c : ℕ) → (c == (slice_index_or xs i d).component) ≡ false → first_of c (drop i xs) ≡ first_of c (drop (i + 1) xs)
+  first_on c h = ap (first_of c) (drop_more xs i d lt) ∙ ap (λ b. option_map (λ x. x.task) (cond b (Some (slice_index_or xs i d)) (find (λ x. c == x.component) (drop (i + 1) xs)))) h
 
 -- a job that is in the list has a place in it
 pub place_within : (c t : ℕ) (xs : List Job) → holds c t xs ≡ true → place_of c t xs < length xs

@@ -33,14 +33,14 @@ Sound sets l m = record { fits : l.held ≤ 64; same : SameJobs (fixed_pending s
 
 module _ (b : Deadline) (long : length b.places ≡ 64) (c t : ℕ) where
   -- the line has a place for a job that is not pending
-  place_left : (c < b.sets.reach) × (t < 8) × (fixed_pending b.sets c t ≡ false) → None ≡ full_refusal (queue b) b.places
+  pub place_left : (c < b.sets.reach) × (t < 8) × (fixed_pending b.sets c t ≡ false) → None ≡ full_refusal (queue b) b.places
   place_left new =
       let few = room b.sets.reach b.sets.eight c t new.0 new.1 (queue b) (deadline_lawful b).inside b.apart (b.same c t ∙ new.2) in
       let test : nat_eq (length (queue b)) (length b.places) ≡ false = ne_eqb _ _ (omega arith) in
       sym (cond-false _ _ _ test)
 
   -- and a pending job has a position in it
-  position_found : (at : ℕ) → at ≡ place_of c t (queue b) → (c < b.sets.reach) × (t < 8) × (fixed_pending b.sets c t ≡ true) → None ≡ position_refusal (queue b) at
+  pub position_found : (at : ℕ) → at ≡ place_of c t (queue b) → (c < b.sets.reach) × (t < 8) × (fixed_pending b.sets c t ≡ true) → None ≡ position_refusal (queue b) at
   position_found at e old =
       let there = place_within c t (queue b) (b.same c t ∙ old.2) in
       let test : nat_le (length (queue b)) at ≡ false = lt-leb _ _ (omega arith) in

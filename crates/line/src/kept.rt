@@ -43,7 +43,8 @@ impl Line {
     pub fn len(&self) -> usize
         ensures { result ≡ self.now.held }
     {
-        self.held
+        let Line { held } = *self;
+        held
     }
 
     /// The records, in their order.

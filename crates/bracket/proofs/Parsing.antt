@@ -36,11 +36,12 @@ nothing : (text bytes : List ℕ) (r : Option (List ℕ)) → after text bytes �
 nothing text bytes None e h = refl
 nothing text bytes (Some rest) e h = absurd (h rest (after_is text bytes rest e))
 
+-- the answer of `strip_prefix`, from what a prefix means
 pub by_cases : (bytes text : List ℕ) (r : Option (Bor (List ℕ))) → MatchOption r ((rest : List ℕ) → bytes ≡ text ++ rest → ⊥) (λ x. bytes ≡ text ++ x.now) → option_map (λ x. x.now) r ≡ after text bytes
 by_cases bytes text None h = nothing text bytes (after text bytes) refl h
 by_cases bytes text (Some x) h = sym (ap (after text) h ∙ after_text text x.now)
 
--- the answer of `strip_prefix`
+-- and from what its contract says
 pub stripped : (bytes text : List ℕ) (r : Option (Bor (List ℕ)))
     → MatchOption r (pointwise eqb (take (length text) bytes) text ≡ false) (λ x. (pointwise eqb (take (length text) bytes) text ≡ true) × (x.now ≡ drop (length text) bytes) × (length x.now + length text ≡ length bytes)) → option_map (λ x. x.now) r ≡ after text bytes
 stripped bytes text r h = by_cases bytes text r (strip_prefix_is Decides-eqb bytes text r h)

@@ -1,4 +1,4 @@
--- Runs of characters: one step of a loop over them, and room for one digit more.
+-- Runs of characters: one step of a loop over them, and room for one digit more. For proofs over this crate: its own take other ways.
 use Rattle.std.proofs.Common.{◌≡◌, ℕ, ◌+◌, ◌-◌, ◌*◌, ◌^◌, ◌<◌, Bool, ◌&&◌, List, length, get_or, drop, sym, ap, ◌∙◌, lt_of_lt_of_le, pow-suc, add-one, arith}
 use native.Mathlib.Nat.{pow-le-pow_right}
 use Rattle.std.specs.List.{list_all}

@@ -24,6 +24,13 @@ plan_sound p = p.sound
 abbrev pub Accepted : Option Refusal → Type 0
 Accepted cause = ◌≡◌ {A = Result (Unit {0}) Refusal} (Ok tt) (answered cause tt)
 
+-- a component that gets a task or a use is declared, and there is such a resource
+pub task_known : (cs : List Component) (i deadline : ℕ) → Accepted (task_refusal cs i deadline) → i < length cs
+task_known cs i deadline accepted = grind (arith, nat_tests)
+
+pub use_known : (cs : List Component) (i resource access : ℕ) → Accepted (use_refusal cs i resource access) → (i < length cs) × (resource < 16)
+use_known cs i resource access accepted = (grind (arith, nat_tests), grind (arith, nat_tests))
+
 -- what a plan keeps true of a longest access, by the budget of its component
 abbrev NotEmpty : Option ℕ → Type 0
 NotEmpty access = ForSome access (λ x. 1 ≤ x)
@@ -77,7 +84,7 @@ sound_set cs i old c l same range in_time none_empty none_longer h = record {
 
 pub sound_task : (cs : List Component) (i deadline : ℕ) (old : Component) → Accepted (task_refusal cs i deadline) → IsSound cs → IsSound (set cs i (with_task (get_or cs i old) deadline))
 sound_task cs i deadline old accepted h =
-    let l : i < length cs = grind (arith, nat_tests) in
+    let l = task_known cs i deadline accepted in
     let was = get_or cs i old in
     let new = with_task was deadline in
     let ranges = h.ranges i old l in
@@ -88,7 +95,7 @@ sound_task cs i deadline old accepted h =
 
 pub sound_use : (cs : List Component) (i resource access : ℕ) (old : Component) → Accepted (use_refusal cs i resource access) → IsSound cs → IsSound (set cs i (with_use (get_or cs i old) resource access))
 sound_use cs i resource access old accepted h =
-    let l : i < length cs = grind (arith, nat_tests) in
+    let l = (use_known cs i resource access accepted).0 in
     let was = get_or cs i old in
     let new = with_use was resource access in
     let within : Within 1 was.budget access = grind (arith, nat_tests, elements) in

@@ -30,7 +30,7 @@ one_task = record {
   congr = λ x y z e. grind (arith, nat_tests);
 }
 
--- one step of a search: the job at i is the one, or it is not
+-- one step of a search: the job at i is the one, or it is not (for proofs over this crate: its own searches need no step)
 module _ (xs : List Job) (i : ℕ) (d : Job) (lt : i < length xs) where
   pub place_here : (c t : ℕ) → is_job (slice_index_or xs i d) c t ≡ true → place_of c t (drop i xs) ≡ 0
   place_here c t h = ap (place_of c t) (drop_more xs i d lt) ∙ ap (λ b. cond (not b) (1 + place_of c t (drop (i + 1) xs)) 0) h

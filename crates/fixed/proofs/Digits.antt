@@ -1,4 +1,4 @@
--- The bits of a number, as tests: under `|`, `&` and a mask, and the lowest of them.
+-- The bits of a number, as tests: under `|`, `&` and a mask, and the lowest of them. For proofs over this crate: its own speak of bits as numbers.
 use Rattle.std.proofs.Common.{◌≡◌, ℕ, zero, suc, ◌-◌, ◌/◌, ◌%◌, ◌^◌, ◌<◌, ◌≤◌, Bool, true, false, not, ◌&&◌, ◌||◌, ◌==◌, refl, ⊎_elim, pow-suc, arith}
 use Rattle.std.specs.Int.{bit_at}
 use Rattle.std.specs.Int.Bits.{bit_and, bit_or}

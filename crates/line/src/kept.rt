@@ -43,6 +43,7 @@ impl Line {
     pub fn len(&self) -> usize
         ensures { result ≡ self.now.held }
     {
+        // on a line of its own, which an edit in must-fail/ changes
         let Line { held } = *self;
         held
     }
